@@ -112,7 +112,7 @@ notes_in_parts ops = omega (
   sum_of_reported notes_reported Notes (count is_note ops) (λ e. e),
 )
 
--- operations in two parts, and the part behind another one
+-- operations in two parts, and the part after another one
 count_parts : (is : Op → Bool) (n : ℕ) (ops : List Op) → count is ops ≡ count is (take n ops) + count is (drop n ops)
 count_parts is n ops = ap (count is) (sym (take-append-drop n ops)) ∙ ap length (filter-append is (take n ops) (drop n ops))
     ∙ length-append (filter is (take n ops)) (filter is (drop n ops))

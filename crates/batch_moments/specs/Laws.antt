@@ -1,4 +1,4 @@
--- The law of what came when.
+-- The law of the lines of moments: added up, they count all operations.
 use Rattle.std.specs.Prelude.{◌≡◌, ℕ, ◌<◌, ◌^◌, nat_eq, if◌then◌else◌, List, flat_map, length, map, sum_by}
 use Rattle.fugue_ids.specs.declared.op.Op.{Op}
 use Rattle.batch_moments.specs.Counts.{count, is_delete, is_note, is_section_operation, is_letter_by}

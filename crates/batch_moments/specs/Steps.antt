@@ -1,4 +1,4 @@
--- Counts on their way.
+-- Counting operation by operation: what the counts are after each step.
 use Rattle.std.specs.Prelude.{◌≡◌, ℕ, ◌+◌, ◌<◌, ◌≤◌, ◌^◌, nat_eq, Option, Some, None, if◌then◌else◌, List}
 use Rattle.std.specs.Ordering.{nat_cmp}
 use Rattle.std.specs.BTreeMap.{get}

@@ -51,7 +51,7 @@ fn put_part(text: &mut Vec<u8>, part: Part) -> Result<(), NoMemory>
     }
 }
 
-/// Appends a part that stands behind another one.
+/// Appends a part that stands after another one.
 fn put_next(text: &mut Vec<u8>, part: Part) -> Result<(), NoMemory>
     ensures { OnOk result (text.new.items ≡ text.old.items ++ codes ", " ++ part_text part) }
 {

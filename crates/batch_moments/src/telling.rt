@@ -30,7 +30,7 @@ fn put_line(
     Ok(())
 }
 
-/// The operations behind so many.
+/// The operations after so many.
 fn behind<'a>(ops: &OpSlice<'a>, count: usize) -> OpSlice<'a>
     ensures { result ≡ drop count ops.now }
 {
@@ -45,9 +45,9 @@ fn behind<'a>(ops: &OpSlice<'a>, count: usize) -> OpSlice<'a>
     rest
 }
 
-/// The operations behind a moment, where those behind it and the moment before are at hand. Where the moments fall, they
+/// The operations after a moment, where those after it and the moment before are at hand. Where the moments fall, they
 /// are looked for from the front.
-fn behind_moment<'a>(ops: &OpSlice<'a>, rest: &OpSlice<'a>, from: usize, to: usize) -> OpSlice<'a>
+fn after_moment<'a>(ops: &OpSlice<'a>, rest: &OpSlice<'a>, from: usize, to: usize) -> OpSlice<'a>
     requires { rest.now ≡ drop (to - from) (drop from ops.now) }
     ensures { result ≡ drop to ops.now }
 {
@@ -72,7 +72,7 @@ pub fn moments_text(alloc: Global, moments: &[u32], ops: OpSlice<'_>) -> Result<
     'moments: for moment in moments {
         let to = *moment as usize;
         put_line(alloc, &mut text, to, &mut rest, to.saturating_sub(from))?;
-        rest = behind_moment(&ops, &rest, from, to);
+        rest = after_moment(&ops, &rest, from, to);
         from = to;
     }
     Ok(text)

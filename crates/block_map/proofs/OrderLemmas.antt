@@ -20,7 +20,7 @@ at_most_by_block a b (inr h) =
           [ inl k ↦ omega (arith, k) | inr k ↦ absurd (omega (arith, h.1, steps_rise b.counter a.counter k)) ],
     )
 
--- what does not stand behind an identifier is in a block before, or in the same one
+-- what does not stand after an identifier is in a block before, or in the same one
 pub block_cases : (a b : Identifier) → IsAtMost a b → IsBefore (block_of a) (block_of b) ⊎ (block_of a ≡ block_of b)
 block_cases a b (inl h) = inl (inl h)
 block_cases a b (inr h) = at_most_cases (block_of a) (block_of b) (inr (h.0, steps_rise a.counter b.counter h.1))

@@ -22,7 +22,7 @@ pub record IsGapFor (cs : List ℕ) (c i : ℕ) : Type 0 where
   pub before : (j : ℕ) → j < i → slice_index cs j < c
   pub behind : (j : ℕ) → i ≤ j → j < length cs → c < slice_index cs j
 
--- the counter could stand in the place of the one at i: smaller ones stand before that place, and greater ones behind it
+-- the counter could stand in the place of the one at i: smaller ones stand before that place, and greater ones after it
 pub record IsFitFor (cs : List ℕ) (c i : ℕ) : Type 0 where
   pub before : (j : ℕ) → j < i → slice_index cs j < c
   pub behind : (j : ℕ) → i < j → j < length cs → c < slice_index cs j

@@ -39,7 +39,7 @@ pub(crate) fn value_of_id<V: Copy>(
     }
 }
 
-/// A block of one value, where there is none. After want of memory all is as before.
+/// A block of one value, where there is none. After an allocation failure all is as before.
 fn begin<V: Copy>(
     blocks: &mut BTreeMap<ElementId, Block<V>>,
     alloc: Global,
@@ -59,7 +59,7 @@ fn begin<V: Copy>(
     Ok(())
 }
 
-/// The identifier has this value then. Only one without a value can want memory, and then each has what it had.
+/// The identifier has this value then. Only one without a value can run out of memory, and then each has what it had.
 pub(crate) fn put<V: Copy>(
     blocks: &mut BTreeMap<ElementId, Block<V>>,
     alloc: Global,
@@ -119,7 +119,7 @@ fn rename_within<V: Copy>(
     }
 }
 
-/// The value stands under another identifier then. After want of memory each has what it had.
+/// The value stands under another identifier then. After an allocation failure each has what it had.
 pub(crate) fn rename<V: Copy>(
     blocks: &mut BTreeMap<ElementId, Block<V>>,
     alloc: Global,

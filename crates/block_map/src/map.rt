@@ -1,3 +1,5 @@
+//! A map from identifiers to values, in blocks of consecutive counters.
+
 ghost use Rattle.block_map.specs.Blocks.{AreBlocks};
 
 use crate::block::Block;

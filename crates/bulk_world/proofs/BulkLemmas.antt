@@ -18,7 +18,7 @@ use Rattle.bulk_world.specs.Turns.{TurnsLead, all_turns, among, authors, bulk_wo
 use Rattle.bulk_world.specs.Summary.{summary, summary_of}
 use Rattle.bulk_world.proofs.TurnLemmas.{IsTurned, numbered, turned}
 use Rattle.origin_model.proofs.SharedLemmas.{first_accepted}
-use Rattle.bulk_world.proofs.HearingLemmas.{IsPooled, behind_first, behind_first_of, first_hears, made_pooled, second_hears}
+use Rattle.bulk_world.proofs.HearingLemmas.{IsPooled, after_first, after_first_of, first_hears, made_pooled, second_hears}
 
 -- the section of both
 abbrev pub the_section : Op
@@ -32,7 +32,7 @@ opens : world authors opening_turn ≡ begun
 unfolding order verdict settle
 opens = refl
 
--- the world behind turns from a world on, and behind what is heard of them
+-- the world after turns from a world on, and after what is heard of them
 abbrev behind : World → (count seed : ℕ) → World
 behind w count seed = let t = turns w count 1 seed in after_events (after_events w t) (hearing w t)
 
@@ -90,25 +90,25 @@ module _ (seed count : ℕ) where
 
   -- what the first author's replica lets the second hear, and the other way round
   one_tells : take (length (accepted one.history) - 1) (drop 1 (accepted one.history)) ≡ made 1
-  one_tells = behind_first the_section (made 1) (accepted one.history) one_accepted
+  one_tells = after_first the_section (made 1) (accepted one.history) one_accepted
 
   two_tells : take (length (accepted two.history) - 1) (drop 1 (accepted two_hears.history)) ≡ made 2
   two_tells =
       let more = first_accepted HOLD MOST_OPERATIONS two (made 1) in
-      behind_first_of the_section (made 2) more.0 (accepted two_hears.history) (length (accepted two.history)) (more.1 ∙ ap (λ l. l ++ more.0) two_accepted)
+      after_first_of the_section (made 2) more.0 (accepted two_hears.history) (length (accepted two.history)) (more.1 ∙ ap (λ l. l ++ more.0) two_accepted)
       (ap length two_accepted)
 
 -- the section was accepted
 abbrev pub IsBegun : State → Type 0
 IsBegun s = 1 ≤ length (accepted s.held.history)
 
--- two authors behind turns
-record AreBehind (seed count : ℕ) (a b : State) : Type 0 where
+-- two authors after turns
+record AreAfter (seed count : ℕ) (a b : State) : Type 0 where
   first : a ≡ numbered 1 (one seed count)
   second : b ≡ numbered 2 (two seed count)
 
-are_behind : (seed count : ℕ) (f s a b : State) → f ≡ two_begin 1 → s ≡ two_begin 2 → TurnsLead count 1 seed f s a b → AreBehind seed count a b
-are_behind seed count f s a b fe se leads =
+are_after : (seed count : ℕ) (f s a b : State) → f ≡ two_begin 1 → s ≡ two_begin 2 → TurnsLead count 1 seed f s a b → AreAfter seed count a b
+are_after seed count f s a b fe se leads =
     let t = after seed count in
     let from : TurnsLead count 1 seed (two_begin 1) (two_begin 2) a b =
     subst (λ o. TurnsLead count 1 seed o (two_begin 2) a b) fe (subst (λ o. TurnsLead count 1 seed f o a b) se leads) in
@@ -118,7 +118,7 @@ are_behind seed count f s a b fe se leads =
 -- both accepted the section
 pub are_begun : (seed count : ℕ) (f s a b : State) → f ≡ two_begin 1 → s ≡ two_begin 2 → TurnsLead count 1 seed f s a b → IsBegun a × IsBegun b
 are_begun seed count f s a b fe se leads =
-    let k = are_behind seed count f s a b fe se leads in (
+    let k = are_after seed count f s a b fe se leads in (
       omega (arith, ap (λ (x : State). length (accepted x.held.history)) k.first, ap length (one_accepted seed count)),
       omega (arith, ap (λ (x : State). length (accepted x.held.history)) k.second, ap length (two_accepted seed count)),
     )
@@ -139,7 +139,7 @@ pub summary_is : (seed count : ℕ) (f s a b a_heard b_heard : State) → f ≡ 
     → a_heard ≡ heard_by a (take (length (accepted b.held.history) - 1) (drop 1 (accepted b_heard.held.history)))
     → summary_of a_heard b_heard ≡ summary (bulk_world seed count)
 summary_is seed count f s a b a_heard b_heard fe se leads b_hears a_hears =
-    let k = are_behind seed count f s a b fe se leads in
+    let k = are_after seed count f s a b fe se leads in
     let two_is : b_heard ≡ numbered 2 (two_hears seed count) =
     b_hears ∙ (λ i. heard_by (k.second i) (take (length (accepted (k.first i).held.history) - 1) (drop 1 (accepted (k.first i).held.history))))
     ∙ ap (heard_by (numbered 2 (two seed count))) (one_tells seed count) in

@@ -1,4 +1,4 @@
--- A call that takes in an operation is a delivery of the world, or for want of memory none, or one whose settling is not over.
+-- A call that takes in an operation is a delivery of the world, or for lack of memory none, or one whose settling is not over.
 use Rattle.std.proofs.Common.{Bool, ap, inl, inr, refl, sym, ◌∙◌, ◌≡◌, ◌≢◌, ◌⊎◌}
 use Rattle.std.specs.Prelude.{Err, Ok, Result}
 use Rattle.fugue_ids.specs.declared.op.Op.{Op}

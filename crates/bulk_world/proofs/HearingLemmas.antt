@@ -42,7 +42,7 @@ all_pooled pool (op ∷ ops) =
     let first : List Op = if has_op pool op then pool else op ∷ pool in
     All-cons (IsPooled (pool_with first ops)) op ops (pool_keeps first ops op (one_pooled pool op)) (all_pooled first ops)
 
--- whatever was made at an event is in the pool behind it
+-- whatever was made at an event is in the pool after it
 making_pooled : (n : ℕ) (w : World) (number : ℕ) (makes : State → List Op)
     → All (IsPooled (after_making w number makes).pool) (if nat_eq number n then made_at number makes w.replicas else [])
 making_pooled n w number makes =
@@ -55,7 +55,7 @@ event_pooled n w (Edit number command) = making_pooled n w number (λ (s : State
 event_pooled n w (Noting number named code body) = making_pooled n w number (λ (s : State). note_effect s named code body)
 event_pooled n w (Deliver number op) = All-nil (IsPooled (after_event w (Deliver number op)).pool)
 
--- whatever was made in events is in the pool behind them
+-- whatever was made in events is in the pool after them
 pub made_pooled : (n : ℕ) (w : World) (events : List Event) → All (IsPooled (after_events w events).pool) (made_over n w events)
 made_pooled n w [] = All-nil (IsPooled w.pool)
 made_pooled n w (event ∷ events) =
@@ -86,12 +86,12 @@ first_hears pool (op ∷ ops) h k m =
     ∙ first_hears pool ops (intake HOLD MOST_OPERATIONS h op) k (All-tail (IsPooled pool) op ops m)
 
 -- all operations but the first
-pub behind_first : (op : Op) (made all : List Op) → all ≡ (op ∷ []) ++ made → take (length all - 1) (drop 1 all) ≡ made
-behind_first op made all is =
+pub after_first : (op : Op) (made all : List Op) → all ≡ (op ∷ []) ++ made → take (length all - 1) (drop 1 all) ≡ made
+after_first op made all is =
     ap (λ l. take (length l - 1) (drop 1 l)) is ∙ take_all (length (op ∷ made) - 1) made (omega arith)
 
 -- the same of a front
-pub behind_first_of : (op : Op) (made more all : List Op) (n : ℕ) → all ≡ ((op ∷ []) ++ made) ++ more → n ≡ length ((op ∷ []) ++ made) → take (n - 1) (drop 1 all) ≡ made
-behind_first_of op made more all n is counted =
+pub after_first_of : (op : Op) (made more all : List Op) (n : ℕ) → all ≡ ((op ∷ []) ++ made) ++ more → n ≡ length ((op ∷ []) ++ made) → take (n - 1) (drop 1 all) ≡ made
+after_first_of op made more all n is counted =
     let few : n - 1 ≡ length made = omega (arith, counted) in
     ap (λ l. take (n - 1) (drop 1 l)) is ∙ ap (λ m. take m (made ++ more)) few ∙ take-append-le (length made) made more (omega arith) ∙ take_all (length made) made (omega arith)

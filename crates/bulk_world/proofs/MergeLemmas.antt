@@ -78,17 +78,17 @@ ready_beside r (op ∷ ops) h p k by ready new =
       part = part_more (op ∷ p) h op (or_left (op_eq op op) (has_op p op) (op_eq-refl op)) (λ x m. or_right (op_eq op x) (has_op p x) (k.part x m));
       own = own_more r h p op k.own;
     } in
-    let later : All (IsAbsent (op ∷ p)) ops = new_behind op h p ops (later_new (op ∷ h) ops ready.1) (All-tail (IsAbsent p) op ops new) in (
+    let later : All (IsAbsent (op ∷ p)) ops = new_after op h p ops (later_new (op ∷ h) ops ready.1) (All-tail (IsAbsent p) op ops new) in (
       now,
       ready_beside r ops (op ∷ h) (op ∷ p) next (All-tail (IsBy r) op ops by) ready.1 later,
     )
   where
-    new_behind : (op : Op) (h p ops : List Op) → All (IsAbsent (op ∷ h)) ops → All (IsAbsent p) ops → All (IsAbsent (op ∷ p)) ops
-    new_behind op h p [] a b = All-nil (IsAbsent (op ∷ p))
-    new_behind op h p (o ∷ ops) a b =
+    new_after : (op : Op) (h p ops : List Op) → All (IsAbsent (op ∷ h)) ops → All (IsAbsent p) ops → All (IsAbsent (op ∷ p)) ops
+    new_after op h p [] a b = All-nil (IsAbsent (op ∷ p))
+    new_after op h p (o ∷ ops) a b =
         All-cons (IsAbsent (op ∷ p)) o ops
         (both_false (op_eq op o) (has_op p o) (or_false (op_eq op o) (has_op h o) (All-head (IsAbsent (op ∷ h)) o ops a)).0 (All-head (IsAbsent p) o ops b))
-        (new_behind op h p ops (All-tail (IsAbsent (op ∷ h)) o ops a) (All-tail (IsAbsent p) o ops b))
+        (new_after op h p ops (All-tail (IsAbsent (op ∷ h)) o ops a) (All-tail (IsAbsent p) o ops b))
 
 -- no identifier of another number comes
 holds_before : (m : ℕ) (h ops : List Op) (i : Identifier) → i.replica ≢ m → All (IsBy m) ops → holds (history_with h ops) i ≡ true → holds h i ≡ true
@@ -113,15 +113,15 @@ all_accepted hold most p (op ∷ ops) r l =
     let next : intake hold most (quiet p) op ≡ quiet (op ∷ p) = ap (λ a. settle (held_after a (quiet p) op)) ok ∙ settle-settled (quiet (op ∷ p)) (none_waits (op ∷ p)) in
     ap (λ s. held_from hold most s ops) next ∙ all_accepted hold most (op ∷ p) ops r.1 (omega (arith, l))
 
--- what one author made behind a history
+-- what one author made after a history
 pub record IsWritten (n : ℕ) (h ops : List Op) : Type 0 where
   pub ready : ReadyInTurn h ops
   pub by : All (IsBy n) ops
   pub of : All (IsOf n) ops
 
--- what one made comes behind what the other made
-pub comes_behind : (m n : ℕ) (h a b : List Op) → m ≢ n → Lawful h → IsWritten m h a → IsWritten n h b → ReadyInTurn (history_with h a) b
-comes_behind m n h a b d w wa wb =
+-- what one made comes after what the other made
+pub comes_after : (m n : ℕ) (h a b : List Op) → m ≢ n → Lawful h → IsWritten m h a → IsWritten n h b → ReadyInTurn (history_with h a) b
+comes_after m n h a b d w wa wb =
     ready_beside n b h (history_with h a)
     (record {
       lawful = ready_lawful h a w wa.ready;
@@ -138,7 +138,7 @@ comes_behind m n h a b d w wa wb =
         (absent_all ops (All-tail (IsAbsent h) op ops e) (All-tail (IsOf n) op ops f))
 
 -- both have the same operations then
-pub same_behind : (h a b : List Op) → SameOps (history_with (history_with h a) b) (history_with (history_with h b) a)
-same_behind h a b x =
+pub same_after : (h a b : List Op) → SameOps (history_with (history_with h a) b) (history_with (history_with h b) a)
+same_after h a b x =
     has-extended (history_with h a) b x ∙ ap (λ k. has_op b x || k) (has-extended h a x) ∙ swap_or (has_op b x) (has_op a x) (has_op h x)
     ∙ ap (λ k. has_op a x || k) (sym (has-extended h b x)) ∙ sym (has-extended (history_with h b) a x)

@@ -23,11 +23,11 @@ use Rattle.bulk_world.specs.Summary.{summary, summary_of}
 use Rattle.bulk_world.specs.Turns.{among, bulk_world, made_over, turns}
 use Rattle.bulk_world.specs.declared.making.TheConstants.{HOLD, MOST_TURNS}
 use Rattle.bulk_world.proofs.BulkLemmas.{after, heard, made, one_hears, the_section, two_hears}
-use Rattle.bulk_world.proofs.MergeLemmas.{IsOf, IsWritten, all_accepted, comes_behind, quiet, same_behind}
+use Rattle.bulk_world.proofs.MergeLemmas.{IsOf, IsWritten, all_accepted, comes_after, quiet, same_after}
 use Rattle.bulk_world.proofs.SteadyLemmas.{IsOneStep, IsSteady, one_step, quiet_author}
 use Rattle.bulk_world.proofs.TurnLemmas.{asked, even_turn, numbered, odd_turn, turn_by}
 
--- what was written behind an operation, and the operation
+-- what was written after an operation, and the operation
 one_more : (n : ℕ) (h ops : List Op) (op : Op) → verdict h op ≡ Ready → IsBy n op → IsOf n op → IsWritten n (op ∷ h) ops → IsWritten n h (op ∷ ops)
 one_more n h ops op ready by of w = record { ready = (ready, w.ready); by = All-cons (IsBy n) op ops by w.by; of = All-cons (IsOf n) op ops of w.of }
 
@@ -73,7 +73,7 @@ written (suc count) i x pool h k s t lh lk =
         let events : List Event = turn_by n w y ∷ turns (after_event w (turn_by n w y)) count (suc i) y in
         AreWritten (suc count) h k (made_over 1 w events) (made_over 2 w events)
 
-    -- behind the operations of a turn of the first author, and of the second
+    -- after the operations of a turn of the first author, and of the second
     First : List Op → Type 0
     First ops =
         let w : World = among (pool_with pool (ops ++ [])) (with_ops one_author ops) two_author in
@@ -109,14 +109,14 @@ module _ (by_set : OrderBySet) (seed count : ℕ) (few : count ≤ MOST_TURNS) w
   first_all =
       ap (λ (s : State). held_from HOLD MOST_OPERATIONS s.held (made seed count 2)) (after seed count).one_is
       ∙ all_accepted HOLD MOST_OPERATIONS (history_with section (made seed count 1)) (made seed count 2)
-      (comes_behind 1 2 section (made seed count 1) (made seed count 2) (λ e. cc e) lawful both.first both.second)
+      (comes_after 1 2 section (made seed count 1) (made seed count 2) (λ e. cc e) lawful both.first both.second)
       (omega (arith, few, both.counted, extended_length section (made seed count 1)))
 
   second_all : two_hears seed count ≡ quiet (history_with (history_with section (made seed count 2)) (made seed count 1))
   second_all =
       ap (λ (s : State). held_from HOLD MOST_OPERATIONS s.held (made seed count 1)) (after seed count).two_is
       ∙ all_accepted HOLD MOST_OPERATIONS (history_with section (made seed count 2)) (made seed count 1)
-      (comes_behind 2 1 section (made seed count 2) (made seed count 1) (λ e. cc e) lawful both.second both.first)
+      (comes_after 2 1 section (made seed count 2) (made seed count 1) (λ e. cc e) lawful both.second both.first)
       (omega (arith, few, both.counted, extended_length section (made seed count 2)))
 
   abbrev here : List Op
@@ -129,10 +129,10 @@ module _ (by_set : OrderBySet) (seed count : ℕ) (few : count ≤ MOST_TURNS) w
   same_text =
       (by_set here there
       (ready_lawful (history_with section (made seed count 1)) (made seed count 2) (ready_lawful section (made seed count 1) lawful both.first.ready)
-      (comes_behind 1 2 section (made seed count 1) (made seed count 2) (λ e. cc e) lawful both.first both.second))
+      (comes_after 1 2 section (made seed count 1) (made seed count 2) (λ e. cc e) lawful both.first both.second))
       (ready_lawful (history_with section (made seed count 2)) (made seed count 1) (ready_lawful section (made seed count 2) lawful both.second.ready)
-      (comes_behind 2 1 section (made seed count 2) (made seed count 1) (λ e. cc e) lawful both.second both.first))
-      (same_behind section (made seed count 1) (made seed count 2))).same_manuscript
+      (comes_after 2 1 section (made seed count 2) (made seed count 1) (λ e. cc e) lawful both.second both.first))
+      (same_after section (made seed count 1) (made seed count 2))).same_manuscript
 
   reported : summary (bulk_world seed count) ≡ summary_of (quiet_author 1 here) (quiet_author 2 there)
   reported = ap summary (heard seed count) ∙ (λ i. summary_of (numbered 1 (first_all i)) (numbered 2 (second_all i)))

@@ -162,7 +162,7 @@ Whole W count done x one two = (a b : State) → TurnsLead (count - done) (done 
 pub all_left : (count x : ℕ) (one two : State) → Whole (TurnsLead count 1 x one two) count 0 x one two
 all_left count x one two a b leads = by_count (count - 0) count 1 x one two a b (omega arith) leads
 
--- behind the last, none is
+-- after the last, none is
 pub none_left : (W : State → State → Type 0) (count done x : ℕ) (one two : State) → count ≤ done → Whole W count done x one two → W one two
 none_left W count done x one two last whole = whole one two (by_count 0 (count - done) (done + 1) x one two one two (omega (arith, last)) (λ pool. refl))
 

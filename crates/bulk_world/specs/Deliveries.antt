@@ -20,7 +20,7 @@ pub record IsFeedCall (op : Op) (old new : State) (before after : Tally) (result
 abbrev pub settled_replica : State → State
 settled_replica s = record s { held = settle s.held }
 
--- the call is a delivery of the world or, where memory was wanting, no event of it, or one whose settling is not over yet
+-- the call is a delivery of the world or, where memory ran out, no event of it, or one whose settling is not over yet
 pub record IsDelivery (op : Op) (old new : State) (result : Result Bool FeedFault) : Type 0 where
   pub is : result ≢ Err NoMemory → new ≡ replica_after_delivery op old
   pub partly : result ≡ Err NoMemory → (new ≡ old) ⊎ (settled_replica new ≡ replica_after_delivery op old)

@@ -2,7 +2,7 @@
 use Rattle.std.specs.Prelude.{◌+◌, ◌*◌, ◌/◌, ◌%◌, ℕ, Bool, not, ◌&&◌, nat_eq, if◌then◌else◌, [], ◌∷◌}
 use Rattle.origin_model.specs.edits.Edits.{Command, Put, Cut}
 
--- the number behind x
+-- the number after x
 abbrev pub next : ℕ → ℕ
 next x = (1664525 * x + 1013904223) % 4294967296
 

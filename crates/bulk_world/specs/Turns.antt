@@ -62,7 +62,7 @@ turn_of i = if nat_eq (i % 2) 1 then 1 else 2
 abbrev pub turn : World → (i x : ℕ) → Event
 turn w i x = Edit (turn_of i) (drawn_command x (length (first_text (numbered_replica (turn_of i) w.replicas))))
 
--- so many turns from the turn i on, by the numbers behind x
+-- so many turns from the turn i on, by the numbers after x
 abbrev pub turns : World → (count i x : ℕ) → List Event
 turns w zero i x = []
 turns w (suc count) i x = let event = turn w i (next x) in event ∷ turns (after_event w event) count (suc i) (next x)
@@ -79,12 +79,12 @@ IsAuthor n s = s ≡ record (author n) { held = s.held }
 abbrev pub two_begin : ℕ → State
 two_begin n = record (author n) { held = record { history = Section (id_at 1 0) None None (codes "B") ∷ []; waiting = [] } }
 
--- so many turns from the turn i on, by the numbers behind x, lead from two replicas to two others
+-- so many turns from the turn i on, by the numbers after x, lead from two replicas to two others
 abbrev pub TurnsLead : (count i x : ℕ) → (one two one' two' : State) → Type 0
 TurnsLead count i x one two one' two' =
     (pool : List Op) → (after_events (among pool one two) (turns (among pool one two) count i x)).replicas ≡ one' ∷ two' ∷ []
 
--- behind events, each replica hears what the other made in them
+-- after events, each replica hears what the other made in them
 abbrev pub hearing : World → List Event → List Event
 hearing w events = delivers 2 (made_over 1 w events) ++ delivers 1 (made_over 2 w events)
 

@@ -6,7 +6,7 @@ ghost use Rattle.bulk_world.specs.Generator.{drawn_command, letter as letter_of,
 use fugue_ids::NoMemory;
 use replica_core::EditFault;
 
-/// The number behind x.
+/// The number after x.
 pub(crate) fn next(x: u32) -> u32
     ensures { result ≡ behind x }
 {

@@ -158,9 +158,9 @@ pub fn bulk_comes_together()
     order_by_set();
 }
 
-/// Each call of `feed` is a delivery of the world, as the calls that edit are edits: also where the operation is refused,
-/// which changes nothing. Where memory was wanting it is none, or what is left of settling leads to the delivery. It does
-/// nothing when it runs.
+/// Each call of `feed` is a delivery of the world, as the calls that edit are edits: also where the operation is
+/// refused, which changes nothing. Where memory ran out it is none, or what is left of settling leads to the delivery.
+/// It does nothing when it runs.
 pub fn feeds_are_deliveries()
     ensures { CallsAreDeliveries }
 {}

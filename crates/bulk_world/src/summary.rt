@@ -87,7 +87,7 @@ fn printed(alloc: Global, replica: &Replica) -> Result<MemSink, NoMemory>
     let mut sink = MemSink::new(alloc, usize::MAX, Vec::new(alloc));
     match replica.write_manuscript(&mut sink) {
         Ok(()) => Ok(sink),
-        // A sink in memory fails for want of memory alone.
+        // A sink in memory fails for lack of memory alone.
         Err(_) => Err(NoMemory),
     }
 }

@@ -9,7 +9,7 @@ use Rattle.fugue_ids.specs.Ops.{id_of}
 use Rattle.fugue_ids.specs.declared.op.Op.{Op}
 use Rattle.fugue_ids.specs.declared.op.Op.TheVariants.{Delete, Note, Section, Text}
 use Rattle.fugue_ids.proofs.IdentifierLemmas.{id_eq-refl}
-use Rattle.fugue_ids.proofs.ListLemmas.{all_before, all_behind, all_from_map}
+use Rattle.fugue_ids.proofs.ListLemmas.{all_before, all_after, all_from_map}
 use Rattle.origin_model.specs.declared.operations.Role.TheVariants.{Section as SectionRole}
 use Rattle.origin_model.specs.declared.operations.Place.TheVariants.{Catalogue as catalogue}
 use Rattle.origin_model.specs.operations.History.{has_op, holder, is_own}
@@ -56,7 +56,7 @@ if_so false o x k = absurd (not_both None x refl k)
 abbrev pub given : Origins → List Identifier
 given o = option_to_list o.left ++ option_to_list o.right
 
--- the names behind the section are the origins
+-- the names after the section are the origins
 origins_are : (form : ℕ) (named : List Identifier) (o : Origins) → origins_of form named ≡ Some o → named ≡ given o
 origins_are zero [] o k = ap given (some_inj (record { left = None; right = None }) o k)
 origins_are (suc zero) (l ∷ []) o k = ap given (some_inj (record { left = Some l; right = None }) o k)
@@ -102,7 +102,7 @@ rests_of h e m all sh =
     record {
       section = All-head (IsHeld h) m.section (given m.value) held;
       left = λ l k. origin_held h m.value.left l (all_before (IsHeld h) (option_to_list m.value.left) (option_to_list m.value.right) rest) k;
-      right = λ r k. origin_held h m.value.right r (all_behind (IsHeld h) (option_to_list m.value.left) (option_to_list m.value.right) rest) k;
+      right = λ r k. origin_held h m.value.right r (all_after (IsHeld h) (option_to_list m.value.left) (option_to_list m.value.right) rest) k;
     }
 
 -- what is lifted, by equations
@@ -268,7 +268,7 @@ new_lawful h (Section i l r t) op w v e k =
     subst (λ z. Lawful (z ∷ lift h)) (some_inj (Section i l r t) op k)
     (one_more (lift h) i l r t v (unlifted h i (e.fresh i refl))
     (fit_section h l w (all_before (Fits h) (given_as SectionRole l) (given_as SectionRole r) e.fit))
-    (fit_section h r w (all_behind (Fits h) (given_as SectionRole l) (given_as SectionRole r) e.fit)))
+    (fit_section h r w (all_after (Fits h) (given_as SectionRole l) (given_as SectionRole r) e.fit)))
 new_lawful h (Text i s l r c) op w v e k = absurd (not_both None op refl k)
 new_lawful h (Delete i) op w v e k = absurd (not_both None op refl k)
 new_lawful h (Note id named code body) op w v e k =

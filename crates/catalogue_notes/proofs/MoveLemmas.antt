@@ -178,7 +178,7 @@ module _ (h : List Op) (id s : Identifier) (n : ℕ) (l r : Option Identifier) (
   parts_old : (xs : List Identifier) → ((x : Identifier) → Contains xs x → x ≢ id) → flat_map (sections_at (e ∷ h)) xs ≡ filter (is_other s) (flat_map F xs)
   parts_old xs d = parts_same (sections_at (e ∷ h)) (λ x. filter (is_other s) (F x)) xs (λ x k. part_old x (d x k)) ∙ sym (filter-parts (is_other s) F xs)
 
-  -- the arrangement behind the move, by where its element lands
+  -- the arrangement after the move, by where its element lands
   pub arranged_by : (front back : List Identifier) → order catalogue (lift h) ≡ front ++ back → order catalogue (lift (e ∷ h)) ≡ front ++ (id ∷ []) ++ back
       → arranged (e ∷ h) ≡ filter (is_other s) (flat_map F front) ++ s ∷ filter (is_other s) (flat_map F back)
   arranged_by front back was is =
@@ -199,7 +199,7 @@ alone h t w k =
     ])
     ∙ filter_one (shown catalogue h) t (shown_once h w) k
 
--- two parts with a member between them are the parts joined with the member put in behind the first
+-- two parts with a member between them are the parts joined with the member put in after the first
 put_in : (A B : List Identifier) (s : Identifier) (j : ℕ) → length A ≡ j → A ++ s ∷ B ≡ insert (A ++ B) j s
 put_in A B s j e = sym (λ i. take_at A B j e i ++ s ∷ drop_at A B j e i)
 

@@ -74,7 +74,7 @@ plan_made old new k j n plan p st i = record {
     m : IsMoved old.held.history (move_by old p.section k j) p.section k j
     m = plan_lands old k j plan p st
 
--- a note is not refused for want of memory
+-- a note is not refused for lack of memory
 not_for_memory : (s : State) (fault : EditFault) → note_refusal s ≡ Some fault → fault ≢ EditNoMemory
 not_for_memory s fault e d = by (nat_lt 0 1 && nat_lt (2 ^ 32) (next_of_own s + 1)) (nat_lt s.most (held_count s + 1)) (ap (λ z. z) e ∙ ap Some d)
   where
@@ -93,7 +93,7 @@ note_refuses_ok s n r = record {
       cc k;
 }
 
--- want of memory is reported as such
+-- an allocation failure is reported as such
 memory_reported : (fault : EditFault) → fault ≡ EditNoMemory → as_move_fault fault ≡ NoMemory
 memory_reported fault e = ap as_move_fault e
 

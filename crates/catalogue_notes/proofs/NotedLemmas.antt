@@ -1,4 +1,4 @@
--- What an arrangement becomes as a note comes behind it.
+-- What an arrangement becomes as a note comes after it.
 use Rattle.std.proofs.Common.{Bool, List, [], ap, arith, get_or, length, not, refl, reverse, subst, sym, ℕ, ◌&&◌, ◌+◌, ◌-◌, ◌++◌, ◌<◌, ◌∙◌, ◌∷◌, ◌≡◌, ◌≤◌}
 use Rattle.std.specs.Prelude.{None, Option, Some, is_some, option_and_then, option_to_list, slice_get}
 use Rattle.std.proofs.lemmas.Option.{slice_get_read}
@@ -15,7 +15,7 @@ use Rattle.origin_model.specs.sides.Node.{IsNew, has_origin}
 use Rattle.origin_model.proofs.SharedLemmas.{not_hidden_before}
 use Rattle.section_list.specs.SectionList.{IsInOrder, Listing, with_element}
 use Rattle.replica_core.proofs.WalkLemmas.{passed_all, passed_more, read_there}
-use Rattle.catalogue_notes.specs.Arranging.{IsBehindNote}
+use Rattle.catalogue_notes.specs.Arranging.{IsAfterNote}
 use Rattle.catalogue_notes.specs.Claims.{Move, move_in}
 use Rattle.catalogue_notes.specs.Lift.{is_section}
 use Rattle.catalogue_notes.specs.Lifting.{IsLiftOf, IsLifting, lift_by, lift_move, node_at}
@@ -101,8 +101,8 @@ last_of h older note is =
     let at : length (reverse older) ≡ length (reverse h) - 1 = omega (arith, ap length longer, length-append (reverse older) (note ∷ [])) in
     sym (ap (λ l. get_or l (length (reverse h) - 1) note) longer ∙ get_or_push (reverse older) note note (length (reverse h) - 1) at)
 
--- the note behind an arrangement, which stands at the end of the list
-module _ (h : List Op) (a : Arrangement) (r : IsBehindNote h a) (w : Lawful h) where
+-- the note after an arrangement, which stands at the end of the list
+module _ (h : List Op) (a : Arrangement) (r : IsAfterNote h a) (w : Lawful h) where
   abbrev ops : List Op
   ops = reverse h
 

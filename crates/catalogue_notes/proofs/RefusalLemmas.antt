@@ -127,7 +127,7 @@ refused_fault s fault f = by fault (λ d. let g = map_from as_move_fault (note_r
 pub note_tells : (s : State) (cause : Option MoveFault) (result : Result ℕ MoveFault) → cause ≡ None → NoteRefusesAs s result → TellsAbsence cause result
 note_tells s cause result n r = all_there cause result n (λ g e. refused_fault s g (λ d. r.only g d e))
 
--- a refusal that is the cause, or want of memory
+-- a refusal that is the cause, or an allocation failure
 abbrev Comes : Result ℕ MoveFault → Option MoveFault → Type 0
 Comes result cause = IfSome cause (λ fault. (result ≡ Err fault) ⊎ (result ≡ Err NoMemory))
 

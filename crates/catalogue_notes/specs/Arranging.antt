@@ -1,4 +1,4 @@
--- What is known between one move or retitle and the next.
+-- What an `Arranger` knows between one move or retitle and the next.
 use Rattle.std.specs.Prelude.{◌≡◌, ℕ, ◌+◌, ◌<◌, ◌≤◌, ◌^◌, IfSome, List, ◌∷◌, length}
 use Rattle.std.specs.List.{Contains}
 use Rattle.fugue_ids.specs.declared.op.Op.{Op}
@@ -34,8 +34,8 @@ pub record MovesStay (old new : List Op) : Type 0 where
   pub arranged_as : arranged new ≡ arranged old
   pub withdrawn : (m : Move) → Contains (moves old) m → is_withdrawn new m.id ≡ is_withdrawn old m.id
 
--- a note stands behind what is arranged
-pub record IsBehindNote (h : List Op) (a : Arrangement) : Type 0 where
+-- a note stands after what is arranged
+pub record IsAfterNote (h : List Op) (a : Arrangement) : Type 0 where
   pub older : List Op
   pub id : Identifier
   pub named : List Identifier
@@ -45,7 +45,7 @@ pub record IsBehindNote (h : List Op) (a : Arrangement) : Type 0 where
   pub arranged : IsArranged older a
 
 -- a move was made of what was found
-pub record IsBehindMove (new : State) (found : Stamped) (k j : ℕ) : Type 0 where
+pub record IsAfterMove (new : State) (found : Stamped) (k j : ℕ) : Type 0 where
   pub old : State
   pub stamped : IsStamped old.held.history found
   pub left_over : stamp old.held.history + 1 < 2 ^ 32
@@ -54,7 +54,7 @@ pub record IsBehindMove (new : State) (found : Stamped) (k j : ℕ) : Type 0 whe
   pub made : IsMoveMade old new k j count
 
 -- a retitle was
-pub record IsBehindRetitle (new : State) (found : Stamped) (k : ℕ) (title : List ℕ) : Type 0 where
+pub record IsAfterRetitle (new : State) (found : Stamped) (k : ℕ) (title : List ℕ) : Type 0 where
   pub old : State
   pub stamped : IsStamped old.held.history found
   pub left_over : stamp old.held.history + 1 < 2 ^ 32

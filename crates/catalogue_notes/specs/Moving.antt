@@ -71,7 +71,7 @@ is_absence NoMemory = false
 abbrev pub TellsAbsence : Option MoveFault → Result ℕ MoveFault → Type 0
 TellsAbsence cause result = (fault : MoveFault) → is_absence fault ≡ true → (result ≡ Err fault) ↔ (cause ≡ Some fault)
 
--- a refusal comes with its cause alone, and where there is a cause, its refusal comes, or want of memory
+-- a refusal comes with its cause alone, and where there is a cause, its refusal comes, or an allocation failure
 pub record RefusesFor (cause : Option MoveFault) (result : Result ℕ MoveFault) : Type 0 where
   pub only : (fault : MoveFault) → fault ≢ NoMemory → result ≡ Err fault → cause ≡ Some fault
   pub always : IfSome cause (λ fault. (result ≡ Err fault) ⊎ (result ≡ Err NoMemory))

@@ -23,7 +23,7 @@ use Rattle.catalogue_notes.specs.declared.printing.ArrangeFault.TheVariants.{Sin
 abbrev pub utf8_or_none : List ℕ → List ℕ
 utf8_or_none bytes = if is_utf8 bytes then bytes else []
 
--- the title that an operation gives: in a retitle it stands behind the stamp
+-- the title that an operation gives: in a retitle it stands after the stamp
 abbrev pub title_in : Op → List ℕ
 title_in (Section id left right title) = encode_utf8_all title
 title_in (Text id section left right ch) = []
@@ -53,7 +53,7 @@ page title (Some l) = codes "# " ++ title ++ 10 ∷ encode_utf8_all (cell_text l
 abbrev pub printed_by : Contents → List Op → Layout → Identifier → List ℕ
 printed_by m h l s = page (title_of_op (title_source h l s)) (text_at m s)
 
--- the text goes out, or the output fails with a front of it gone out, or memory is wanting and nothing went out
+-- the text goes out, or the output fails with a front of it gone out, or memory runs out and nothing went out
 abbrev pub WritesText : OutView → OutView → Result (Unit {0}) ArrangeFault → List ℕ → Type 0
 WritesText old new (Ok done) text = WritesBytes {E = Failed} {T = Unit {0}} old new (Ok done) text
 WritesText old new (Err SinkFault) text = WritesBytes {E = Failed} {T = Unit {0}} old new (Err (record {})) text

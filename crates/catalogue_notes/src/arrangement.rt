@@ -5,7 +5,7 @@ ghost use Rattle.std.specs.BTreeMap.{get};
 ghost use Rattle.fugue_ids.specs.Identifiers.{Identifier, id_cmp};
 ghost use Rattle.origin_model.specs.edits.State.{IsSound};
 ghost use Rattle.run_store.specs.Cells.{cell_ids, cells_shown};
-ghost use Rattle.catalogue_notes.specs.Arranging.{IsBehindNote};
+ghost use Rattle.catalogue_notes.specs.Arranging.{IsAfterNote};
 ghost use Rattle.catalogue_notes.specs.Lifting.{IsLiftOf};
 ghost use Rattle.catalogue_notes.specs.Making.{without_member};
 ghost use Rattle.catalogue_notes.specs.Placing.{HaveOwnPositions, AreWinners, IsArranged, IsPlacing, candidate_position, position_in};
@@ -94,7 +94,7 @@ impl Arrangement {
 
     /// Takes in the newest operation, a note. The list of the sections stays as it is.
     pub fn take_note(&mut self, replica: &Replica) -> Result<(), NoMemory>
-        requires { IsBehindNote replica.now.held.history self.old }
+        requires { IsAfterNote replica.now.held.history self.old }
         ensures lifted { OnOk result
             (IsLiftOf replica.now.held.history self.new.lifted.list self.new.lifted.moves.items) }
         ensures winners { OnOk result

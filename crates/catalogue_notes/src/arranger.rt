@@ -19,7 +19,7 @@ use std::alloc::Global;
 /// out is kept up to date for the next ones, so the sections and notes are gone through once.
 #[derive(Drop)]
 pub struct Arranger {
-    /// None before the first call, and where memory was wanting or a call was refused: the next one finds it out anew.
+    /// None before the first call, and where memory ran out or a call was refused: the next one finds it out anew.
     found: Option<Stamped>,
 }
 
@@ -31,7 +31,7 @@ impl Arranger {
         Arranger { found: None }
     }
 
-    /// Moves the section k, counted from 0 as sections are arranged, to j. The answer is 1.
+    /// Moves the section k, counted from 0 as sections are arranged, to j. Returns 1.
     pub fn move_section(
         &mut self,
         alloc: Global,
@@ -59,7 +59,7 @@ impl Arranger {
         Ok(made)
     }
 
-    /// Gives the section k, counted from 0 as sections are arranged, the title. The answer is 1.
+    /// Gives the section k, counted from 0 as sections are arranged, the title. Returns 1.
     pub fn retitle(
         &mut self,
         alloc: Global,

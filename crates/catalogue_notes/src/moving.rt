@@ -151,7 +151,7 @@ pub(crate) fn make_move(
     make(replica, MOVE_CODE, plan)
 }
 
-/// Moves the section k, counted from 0 as sections are arranged, to j. The answer is 1.
+/// Moves the section k, counted from 0 as sections are arranged, to j. Returns 1.
 pub fn move_section(
     alloc: Global,
     replica: &mut Replica,

@@ -36,8 +36,8 @@ impl From<NoMemory> for ArrangeFault {
     }
 }
 
-/// The bytes behind the stamp of a retitle.
-fn behind_stamp(body: &[u8]) -> &[u8]
+/// The bytes after the stamp of a retitle.
+fn after_stamp(body: &[u8]) -> &[u8]
     ensures { result.now ≡ drop 4 body.now }
 {
     match body {
@@ -62,7 +62,7 @@ fn title_in(op: &Op) -> &str
 {
     match op {
         Op::Section { title, .. } => title.as_str(),
-        Op::Note { body, .. } => text_of(behind_stamp(body.as_slice())),
+        Op::Note { body, .. } => text_of(after_stamp(body.as_slice())),
         Op::Text { .. } | Op::Delete { .. } => "",
     }
 }

@@ -2,7 +2,7 @@
 ghost use Rattle.std.specs.Prelude.{◌≡◌, ◌+◌, ◌<◌, ◌^◌, IfErr, IfOk, IfSome, List, OnOk, Some};
 ghost use Rattle.fugue_ids.specs.declared.op.Op.{Op as OpOf};
 ghost use Rattle.origin_model.specs.edits.State.{IsSound, State as StateOf};
-ghost use Rattle.catalogue_notes.specs.Arranging.{IsBehindMove, IsBehindRetitle, IsStamped};
+ghost use Rattle.catalogue_notes.specs.Arranging.{IsAfterMove, IsAfterRetitle, IsStamped};
 ghost use Rattle.catalogue_notes.specs.Lift.{stamp as stamp_on};
 ghost use Rattle.catalogue_notes.specs.Moving.{stamps_cause};
 
@@ -44,9 +44,9 @@ impl Stamped {
         Ok(self.stamp + 1)
     }
 
-    /// The same behind a move of the section k to j. After want of memory it is of no use.
+    /// The same after a move of the section k to j. After an allocation failure it is of no use.
     pub fn take_move(&mut self, replica: &Replica, k: usize, j: usize) -> Result<(), NoMemory>
-        requires behind { IsBehindMove replica.now self.old k j }
+        requires behind { IsAfterMove replica.now self.old k j }
         requires sound { IsSound replica.now }
         ensures { OnOk result (IsStamped replica.now.held.history self.new) }
     {
@@ -56,14 +56,14 @@ impl Stamped {
         Ok(())
     }
 
-    /// The same behind a retitle. After want of memory it is of no use.
+    /// The same after a retitle. After an allocation failure it is of no use.
     pub fn take_retitle(
         &mut self,
         replica: &Replica,
         k: usize,
         title: &Title,
     ) -> Result<(), NoMemory>
-        requires behind { IsBehindRetitle replica.now self.old k title.now }
+        requires behind { IsAfterRetitle replica.now self.old k title.now }
         requires sound { IsSound replica.now }
         ensures { OnOk result (IsStamped replica.now.held.history self.new) }
     {

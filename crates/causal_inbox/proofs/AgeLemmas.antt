@@ -46,7 +46,7 @@ dropped_below a ages below = dropped_apart a ages (All-weaker (λ b. a < b) (λ 
 pub dropped_own : (a : ℕ) → without_age (a ∷ []) a ≡ []
 dropped_own a = rw (eq-eqb a a refl)
 
--- an age that is added above all others stands behind them
+-- an age that is added above all others stands after them
 pub added_above : (a : ℕ) (ages : List ℕ) → All (λ b. b < a) ages → with_age ages a ≡ ages ++ a ∷ []
 added_above a [] above = refl
 added_above a (c ∷ ages) above =

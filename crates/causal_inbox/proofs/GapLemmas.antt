@@ -5,7 +5,7 @@ use Rattle.std.proofs.lemmas.List.{append_assoc, drop-set, drop-set-lt, drop_mor
 use Rattle.std.proofs.lemmas.List.Edits.{swap_is}
 use Rattle.causal_inbox.specs.Gap.{items_around_gap}
 
--- the item behind the gap goes before it
+-- the item after the gap goes before it
 pub moved_on : {X : Type 0} (xs : List X) (at size : ℕ) → 0 < size → at + size < length xs
     → items_around_gap (swap xs at (at + size)) (at + 1) size ≡ items_around_gap xs at size
 moved_on [] at size some within = absurd (omega (arith, within))
@@ -25,7 +25,7 @@ moved_on (d ∷ rest) at size some within =
     ∙ append_assoc (take at xs) (behind ∷ []) (drop (at + size + 1) xs)
     ∙ ap (λ l. take at xs ++ l) (sym (drop_more xs (at + size) d within))
 
--- the item before the gap goes behind it
+-- the item before the gap goes after it
 pub moved_back : {X : Type 0} (xs : List X) (at size : ℕ) → 0 < size → at + size < length xs
     → items_around_gap (swap xs at (at + size)) at size ≡ items_around_gap xs (at + 1) size
 moved_back [] at size some within = absurd (omega (arith, within))

@@ -13,7 +13,7 @@ use Rattle.std.proofs.lemmas.List.Folds.{list_any-append}
 use Rattle.std.proofs.lemmas.List.Kept.{AllPairs-cons}
 use Rattle.std.proofs.lemmas.List.Quantifiers.{all_pairs_remove}
 use Rattle.std.proofs.Math.Seq.{drop-cons}
-use Rattle.fugue_ids.proofs.ListLemmas.{all_pairs_across, all_pairs_behind, all_pairs_head, all_pairs_nil, all_pairs_tail}
+use Rattle.fugue_ids.proofs.ListLemmas.{all_pairs_across, all_pairs_after, all_pairs_head, all_pairs_nil, all_pairs_tail}
 use Rattle.fugue_ids.specs.declared.op.Op.{Op}
 use Rattle.causal_inbox.specs.Index.{IsAgeIndex, with_age, ages_with, without_age, positions_with}
 use Rattle.causal_inbox.proofs.KeyLemmas.{AreKeys}
@@ -45,7 +45,7 @@ rises_under key (o ∷ ops) (a ∷ ages) r =
 pub index_rises : (ops : List Op) (ages : List ℕ) (at : Key → List ℕ) → IsAgeIndex ops ages at → AllRise at
 index_rises ops ages at index key = subst (AllPairs ◌<◌) (sym (index.listed key)) (rises_under key ops ages index.rise)
 
--- the ages under a key, of operations one list behind the other
+-- the ages under a key, of operations one list after the other
 ages-append : (key : Key) (ops others : List Op) (ages more : List ℕ) → length ages ≡ length ops
     → ages_with key (ops ++ others) (ages ++ more) ≡ ages_with key ops ages ++ ages_with key others more
 ages-append key [] others [] more same = refl
@@ -131,7 +131,7 @@ ages_removed key op a ops ages p same r is at =
     (All-weaker (λ b. All (λ c. b < c) (a ∷ drop (suc p) ages)) (λ b. b < a) (λ b all. All-head (λ c. b < c) a (drop (suc p) ages) all) (take p ages)
     (all_pairs_across ◌<◌ (take p ages) (a ∷ drop (suc p) ages) rises)) in
     let higher : All (λ b. a < b) behind = ages_all (λ b. a < b) key (drop (suc p) ops) (drop (suc p) ages)
-    (all_pairs_head ◌<◌ a (drop (suc p) ages) (all_pairs_behind ◌<◌ (take p ages) (a ∷ drop (suc p) ages) rises)) in
+    (all_pairs_head ◌<◌ a (drop (suc p) ages) (all_pairs_after ◌<◌ (take p ages) (a ∷ drop (suc p) ages) rises)) in
     let parts : ages_with key ops ages ≡ before ++ ages_with key (op ∷ drop (suc p) ops) (a ∷ drop (suc p) ages) =
     (λ i. ages_with key (parted_at ops p op is i) (parted_at ages p a at i)) ∙ ages-append key (take p ops) (op ∷ drop (suc p) ops) (take p ages) (a ∷ drop (suc p) ages) long in
     let gone : without_age (before ++ a ∷ behind) a ≡ before ++ behind =

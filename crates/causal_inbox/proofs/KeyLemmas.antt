@@ -82,7 +82,7 @@ changed_more change twice keys i x old mid new e before step key =
           ∙ sym (ap (λ (b : Bool). if b then change (old key) else old key) (more ∙ ap (λ (b : Bool). is_among (take i keys) key || b) n ∙ or-false (is_among (take i keys) key)))
     ]
 
--- want of memory at one key leaves the age under those before it
+-- an allocation failure at one key leaves the age under those before it
 pub front_added : (keys : List Key) (i a : ℕ) (x : Key) (old mid new : Key → List ℕ) → Changed (is_among (take i keys)) (λ l. with_age l a) old mid
     → IsReplaced mid new x (mid x) → FrontAdded keys a old new
 front_added keys i a x old mid new before step = record { count = i; front = λ (key : Key). same key ∙ before key }

@@ -1,12 +1,12 @@
--- What stands in a list behind the places that are gone.
+-- What stands in a list after the places that are gone.
 use Rattle.std.proofs.Common.{ap, arith, refl, sym, List, ℕ, suc, [], ◌∷◌, ◌++◌, ◌+◌, ◌-◌, ◌<◌, ◌≡◌, ◌∙◌, length, drop, take, add-one, set, zero}
 use Rattle.std.specs.List.{remove}
 use Rattle.std.proofs.lemmas.List.{drop-drop, drop_at, take-append-drop, length-take-le}
 use Rattle.std.proofs.lemmas.List.Edits.{remove-append_right}
 
 -- one that leaves there
-pub removed_behind : {X : Type 0} (xs : List X) (g p : ℕ) → g + p < length xs → drop g (remove xs (g + p)) ≡ remove (drop g xs) p
-removed_behind xs g p within =
+pub removed_after : {X : Type 0} (xs : List X) (g p : ℕ) → g + p < length xs → drop g (remove xs (g + p)) ≡ remove (drop g xs) p
+removed_after xs g p within =
     let front : length (take g xs) ≡ g = length-take-le g xs (omega (arith, within)) in
     ap (λ l. drop g (remove l (g + p))) (sym (take-append-drop g xs))
     ∙ ap (drop g) (remove-append_right (take g xs) (drop g xs) g (g + p) front (omega arith))
@@ -14,16 +14,16 @@ removed_behind xs g p within =
     ∙ ap (remove (drop g xs)) {x = g + p - g} {y = p} (omega arith)
 
 -- the first ones move up
-pub moved_behind : {X : Type 0} (xs mid : List X) (g p : ℕ) (f : X) → g + p < length xs → mid ≡ f ∷ take p (drop g xs)
+pub moved_after : {X : Type 0} (xs mid : List X) (g p : ℕ) (f : X) → g + p < length xs → mid ≡ f ∷ take p (drop g xs)
     → drop (g + 1) (take g xs ++ (mid ++ drop (p + 1) (drop g xs))) ≡ remove (drop g xs) p
-moved_behind xs mid g p f within is =
+moved_after xs mid g p f within is =
     let rest : List _ = drop (p + 1) (drop g xs) in
     let front : length (take g xs) ≡ g = length-take-le g xs (omega (arith, within)) in
     sym (drop-drop 1 g (take g xs ++ (mid ++ rest)))
     ∙ ap (drop 1) (drop_at (take g xs) (mid ++ rest) g front ∙ ap (λ l. l ++ rest) is)
     ∙ ap (λ n. take p (drop g xs) ++ drop n (drop g xs)) (add-one p)
 
--- the last item of a list, which stands behind p others
+-- the last item of a list, which stands after p others
 last_alone : {X : Type 0} (xs : List X) (p : ℕ) → length xs ≡ p + 1 → (x : X) × (drop p xs ≡ x ∷ [])
 last_alone [] p long = absurd (omega (arith, long))
 last_alone (x ∷ []) zero long = (x, refl)

@@ -7,7 +7,7 @@ use Rattle.std.specs.List.{list_any}
 use Rattle.std.specs.BTreeMap.{BTreeMap, get}
 use Rattle.std.specs.BTreeMap.Range.{IsLeBy}
 use Rattle.fugue_ids.specs.Identifiers.{Identifier}
-use Rattle.fugue_ids.specs.Runs.{id_behind}
+use Rattle.fugue_ids.specs.Runs.{id_after}
 use Rattle.fugue_ids.specs.declared.op.Op.{Op}
 use Rattle.origin_model.specs.operations.Counters.{mentioned_ids}
 use Rattle.causal_inbox.specs.Index.{IsAgeIndex}
@@ -82,7 +82,7 @@ concerned m ops ages first n answer none index is = (λ yes. to (is.0 yes), λ c
     to l = record { k = l.k; within = l.within; found = subst (Contains (flat_map mentioned_ids ops)) l.of_one (keys_mentioned l.key ops (sym (entry l.key) ∙ l.there)) }
 
     from : AreConcerned ops first n → HasListFrom m first n
-    from c = elim (mentioned_keys (id_behind first c.k) ops c.found) [
-      | inl e ↦ record { key = own_key_of (id_behind first c.k); k = c.k; within = c.within; of_one = refl; there = entry (own_key_of (id_behind first c.k)) ∙ e }
-      | inr e ↦ record { key = key_of_naming (id_behind first c.k); k = c.k; within = c.within; of_one = refl; there = entry (key_of_naming (id_behind first c.k)) ∙ e }
+    from c = elim (mentioned_keys (id_after first c.k) ops c.found) [
+      | inl e ↦ record { key = own_key_of (id_after first c.k); k = c.k; within = c.within; of_one = refl; there = entry (own_key_of (id_after first c.k)) ∙ e }
+      | inr e ↦ record { key = key_of_naming (id_after first c.k); k = c.k; within = c.within; of_one = refl; there = entry (key_of_naming (id_after first c.k)) ∙ e }
     ]

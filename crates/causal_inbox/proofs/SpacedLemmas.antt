@@ -24,18 +24,18 @@ pub gaps_end : (from : ℕ) (gaps : List ℕ) (end : ℕ) → AreGaps from gaps 
 gaps_end from [] end r = r
 gaps_end from (gap ∷ gaps) end r = omega (arith, r.0, gaps_end (gap + 1) gaps end r.1)
 
--- a gap stands behind as many places as there are gaps before it
-pub gap_behind : (from : ℕ) (gaps : List ℕ) (end i : ℕ) → AreGaps from gaps end → i < length gaps → from + i ≤ get_or gaps i 0
-gap_behind from [] end i r l = absurd (omega (arith, l))
-gap_behind from (gap ∷ gaps) end zero r l = omega (arith, r.0)
-gap_behind from (gap ∷ gaps) end (suc i) r l = omega (arith, r.0, gap_behind (gap + 1) gaps end i r.1 (omega (arith, l)))
+-- a gap stands after as many places as there are gaps before it
+pub gap_after : (from : ℕ) (gaps : List ℕ) (end i : ℕ) → AreGaps from gaps end → i < length gaps → from + i ≤ get_or gaps i 0
+gap_after from [] end i r l = absurd (omega (arith, l))
+gap_after from (gap ∷ gaps) end zero r l = omega (arith, r.0)
+gap_after from (gap ∷ gaps) end (suc i) r l = omega (arith, r.0, gap_after (gap + 1) gaps end i r.1 (omega (arith, l)))
 
 -- the gap at `i` is passed where it stands no farther than the place and the gaps before it
 pub is_passed : (from : ℕ) (gaps : List ℕ) (end place i : ℕ) → AreGaps from gaps end → i < length gaps → get_or gaps i 0 ≤ place + i → i < gaps_before gaps place
 is_passed from [] end place i r l m = absurd (omega (arith, l))
 is_passed from (gap ∷ gaps) end place zero r l m = let e = past gap gaps place (omega (arith, m)) in omega (arith, e)
 is_passed from (gap ∷ gaps) end place (suc i) r l m =
-    let behind : gap + 1 + i ≤ get_or gaps i 0 = gap_behind (gap + 1) gaps end i r.1 (omega (arith, l)) in
+    let behind : gap + 1 + i ≤ get_or gaps i 0 = gap_after (gap + 1) gaps end i r.1 (omega (arith, l)) in
     let e = past gap gaps place (omega (arith, m, behind)) in
     omega (arith, e, is_passed (gap + 1) gaps end (suc place) i r.1 (omega (arith, l)) (omega (arith, m)))
 
@@ -103,7 +103,7 @@ pub record Split {T : Type 0} (items : List T) (from : ℕ) (gaps : List ℕ) (p
   pub left : (y : T) → between_gaps (set items at y) from (insert gaps (gaps_before gaps place) at) ≡ front ++ back
   pub in_order : AreGaps from (insert gaps (gaps_before gaps place) at) (length items)
 
--- what stands from a place on, where another item is put behind it
+-- what stands from a place on, where another item is put after it
 drop_set : {T : Type 0} (items : List T) (from q : ℕ) (y : T) → from ≤ q → q < length items
     → drop from (set items q y) ≡ take (q - from) (drop from items) ++ y ∷ drop (q + 1) items
 drop_set items from q y l w =
@@ -121,7 +121,7 @@ module _ {T : Type 0} (items : List T) where
   part_long : (from to : ℕ) → from ≤ to → to ≤ length items → length (part from to) ≡ to - from
   part_long from to l w = length-take-le (to - from) (drop from items) (omega (arith, l, w, length-drop from items))
 
-  -- no gap stands behind the place
+  -- no gap stands after the place
   last_part : (from q : ℕ) → from ≤ q → q < length items → Split items from [] q q
   last_part from q l w = record {
     front = part from q;
@@ -134,7 +134,7 @@ module _ {T : Type 0} (items : List T) where
     in_order = (l, omega (arith, w));
   }
 
-  -- the next gap stands behind the place
+  -- the next gap stands after the place
   this_part : (from gap : ℕ) (gaps : List ℕ) (q : ℕ) → AreGaps from (gap ∷ gaps) (length items) → from ≤ q → q < gap → Split items from (gap ∷ gaps) q q
   this_part from gap gaps q r l b =
       let end = gaps_end (gap + 1) gaps (length items) r.1 in
@@ -217,9 +217,9 @@ joined xs ys gone at size gap gaps behind r same is =
     sym (drop_at (take to ys) (drop (to + size) ys) to long_new) ∙ ap (drop to) is ∙ ap (λ n. drop n (items_around_gap xs at size)) more
     ∙ drop-append-add (take at xs) (drop (at + size) xs) (gap - (at + size))
     ∙ drop-drop (gap - (at + size)) (at + size) xs ∙ ap (λ n. drop n xs) {x = at + size + (gap - (at + size))} {y = gap} (omega (arith, r.0)) in
-    let behind_gap : drop (gap + 1) ys ≡ drop (gap + 1) xs =
+    let after_gap : drop (gap + 1) ys ≡ drop (gap + 1) xs =
     ap (λ n. drop n ys) {x = gap + 1} {y = to + size + 1} (omega (arith, r.0)) ∙ sym (drop-drop 1 (to + size) ys) ∙ ap (drop 1) rest ∙ drop-drop 1 gap xs in
-    (λ i. drop gone (front i) ++ same_rest ys xs (gap + 1) gaps (length xs) r.1 behind_gap i)
+    (λ i. drop gone (front i) ++ same_rest ys xs (gap + 1) gaps (length xs) r.1 after_gap i)
     ∙ ap (λ l. l ++ between_gaps xs (gap + 1) gaps) (drop-append-le gone (take at xs) passed (omega (arith, long, behind)))
     ∙ append_assoc (drop gone (take at xs)) passed (between_gaps xs (gap + 1) gaps)
 

@@ -1,7 +1,7 @@
 -- A list with gaps in it.
 use Rattle.std.specs.Prelude.{ℕ, zero, suc, ◌+◌, ◌-◌, ◌<◌, ◌≤◌, List, [], ◌∷◌, ◌++◌, drop, take, length, nat_lt, if◌then◌else◌}
 
--- the items before a gap of the size, which begins at `at`, and those behind it
+-- the items before a gap of the size, which begins at `at`, and those after it
 abbrev pub items_around_gap : {T : Type 0} → List T → (at size : ℕ) → List T
 items_around_gap items at size = take at items ++ drop (at + size) items
 

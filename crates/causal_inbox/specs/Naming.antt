@@ -2,7 +2,7 @@
 use Rattle.std.specs.Prelude.{Bool, Contains, List, flat_map, ℕ, ◌<◌}
 use Rattle.std.specs.List.{list_any}
 use Rattle.fugue_ids.specs.Identifiers.{Identifier, id_eq}
-use Rattle.fugue_ids.specs.Runs.{id_behind}
+use Rattle.fugue_ids.specs.Runs.{id_after}
 use Rattle.fugue_ids.specs.declared.op.Op.{Op}
 use Rattle.origin_model.specs.operations.Counters.{mentioned_ids}
 use Rattle.origin_model.specs.operations.Verdict.{names}
@@ -20,4 +20,4 @@ naming i ops = positions_from 0 (is_naming i) ops
 pub record AreConcerned (ops : List Op) (first : Identifier) (n : ℕ) : Type 0 where
   pub k : ℕ
   pub within : k < n
-  pub found : Contains (flat_map mentioned_ids ops) (id_behind first k)
+  pub found : Contains (flat_map mentioned_ids ops) (id_after first k)

@@ -2,7 +2,7 @@
 use Rattle.std.specs.Prelude.{◌≡◌, ℕ, ◌<◌, List, IsSome}
 use Rattle.std.specs.BTreeMap.{BTreeMap, get}
 use Rattle.fugue_ids.specs.Identifiers.{Identifier}
-use Rattle.fugue_ids.specs.Runs.{id_behind}
+use Rattle.fugue_ids.specs.Runs.{id_after}
 use Rattle.causal_inbox.specs.Lists.{key_cmp}
 use Rattle.causal_inbox.specs.declared.key.Key.{Key}
 
@@ -11,5 +11,5 @@ pub record HasListFrom (lists : BTreeMap Key (List ℕ)) (first : Identifier) (n
   pub key : Key
   pub k : ℕ
   pub within : k < n
-  pub of_one : key.id ≡ id_behind first k
+  pub of_one : key.id ≡ id_after first k
   pub there : IsSome (get key_cmp lists key)

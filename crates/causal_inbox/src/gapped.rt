@@ -97,7 +97,7 @@ impl<T: Drop> Gapped<T> {
         Ok(())
     }
 
-    /// Another item at the position. The answer is the one that stood there.
+    /// Another item at the position. Returns the one that stood there.
     pub fn put(&mut self, position: usize, item: T) -> T
         requires { position < length self.old.items }
         ensures before { slice_get self.old.items position ≡ Some result }
@@ -153,7 +153,7 @@ fn stretch_of<'a, T>(items: &'a [T], gone: usize, gaps: &[usize], position: usiz
     &items[at..end]
 }
 
-/// The gap behind the item at the position, or the end of the items.
+/// The gap after the item at the position, or the end of the items.
 fn next_gap<T>(items: &[T], gone: usize, gaps: &[usize], position: usize, at: usize) -> usize
     requires in_order { AreGaps gone gaps.now (length items.now) }
     requires within { position < length (between_gaps items.now gone gaps.now) }
@@ -232,7 +232,7 @@ fn note_gap(gaps: &mut Vec<usize>, position: usize, gap: usize)
     }
 }
 
-/// No gap is left among the items behind those that are gone.
+/// No gap is left among the items after those that are gone.
 fn close_gaps<T: Drop>(items: &mut Vec<T>, gone: &mut usize, gaps: &mut Vec<usize>)
     requires { AreGaps gone.old gaps.old.items (length items.old.items) }
     ensures items { drop gone.new items.new.items ≡ between_gaps items.old.items gone.old gaps.old.items }
@@ -246,11 +246,11 @@ fn close_gaps<T: Drop>(items: &mut Vec<T>, gone: &mut usize, gaps: &mut Vec<usiz
     drop_gone(items, gone);
 }
 
-/// The gaps become one, which ends where the last of them does. The answer is where it begins.
+/// The gaps become one, which ends where the last of them does. Returns where it begins.
 fn join_gaps<T>(items: &mut [T], gone: usize, gaps: &[usize]) -> usize
     requires { AreGaps gone gaps.now (length items.old) }
     ensures items { drop gone (items_around_gap items.new result (length gaps.now)) ≡ between_gaps items.old gone gaps.now }
-    ensures behind_gone { gone ≤ result }
+    ensures after_gone { gone ≤ result }
     ensures within { result + length gaps.now ≤ length items.new }
     ensures len { length items.new ≡ length items.old }
 {
@@ -265,9 +265,9 @@ fn join_gaps<T>(items: &mut [T], gone: usize, gaps: &[usize]) -> usize
     at
 }
 
-/// No gap is left among the items behind those that are gone: the shorter side moves.
+/// No gap is left among the items after those that are gone: the shorter side moves.
 fn close_gap<T: Drop>(items: &mut Vec<T>, gone: &mut usize, gap: usize, size: usize)
-    requires behind_gone { gone.old ≤ gap }
+    requires after_gone { gone.old ≤ gap }
     requires within { gap + size ≤ length items.old.items }
     ensures items { drop gone.new items.new.items ≡ drop gone.old (items_around_gap items.old.items gap size) }
     ensures within { gone.new ≤ length items.new.items }

@@ -77,7 +77,7 @@ impl Inbox {
         self.inner.find(op)
     }
 
-    /// One operation more, behind those that wait. A `PushFault` hands the operation back, and the inbox is as before.
+    /// One operation more, after those that wait. A `PushFault` hands the operation back, and the inbox is as before.
     pub fn push(&mut self, op: Op) -> Result<(), PushFault>
         ensures ok { OnOk result (self.new ≡ record self.old { ops = self.old.ops ++ op ∷ [] }) }
         ensures full { (result ≡ Err (PushFault.Full op)) ↔ (length self.old.ops ≡ self.old.hold) }
@@ -100,7 +100,7 @@ impl Inbox {
         None
     }
 
-    /// One leaves, and those behind it close up.
+    /// One leaves, and those after it close up.
     pub fn remove(&mut self, position: usize) -> Op
         requires { position < length self.old.ops }
         ensures op { slice_get self.old.ops position ≡ Some result }

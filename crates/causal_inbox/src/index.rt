@@ -51,7 +51,7 @@ impl Index {
         }
     }
 
-    /// The position of the operation with the key that stands behind k others with it.
+    /// The position of the operation with the key that stands after k others with it.
     pub fn nth(&self, key: &Key, k: usize) -> Option<usize>
         requires { AllPairs ◌<◌ self.now.ages.items }
         ensures { (ops : List AnyOp) → IsAgeIndex ops self.now.ages.items (ages_under self.now.lists)
@@ -109,7 +109,7 @@ impl Index {
         has_list_from(&self.lists, first, count)
     }
 
-    /// One operation more, at the end. After want of memory the index is as before.
+    /// One operation more, at the end. After an allocation failure the index is as before.
     pub fn add(&mut self, op: &Op) -> Result<(), NoMemory>
         requires { IsAgeIndexOfSome self.old.ages.items (ages_under self.old.lists) }
         ensures ok { OnOk result ((ops : List AnyOp) → IsAgeIndex ops self.old.ages.items (ages_under self.old.lists)
@@ -183,7 +183,7 @@ fn first_from(ages: &Gapped<u64>, age: u64) -> usize
     low
 }
 
-/// An age above all. There is none behind the last number, which no run reaches.
+/// An age above all. There is none after the last number, which no run reaches.
 fn next_age(ages: &Gapped<u64>) -> Result<u64, NoMemory>
     requires { AllPairs ◌<◌ ages.now.items }
     ensures { IfOk result (λ age. All (λ other. other < age) ages.now.items) }

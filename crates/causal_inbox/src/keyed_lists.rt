@@ -25,7 +25,7 @@ pub(crate) fn list_under<'a, K: Ord, V: Drop>(lists: &'a KeyedLists<K, V>, key: 
     }
 }
 
-/// One value more under the key, behind the others. After want of memory each list is as before.
+/// One value more under the key, after the others. After an allocation failure each list is as before.
 pub(crate) fn push_under<K: Ord + Copy + Drop, V: Copy + Drop>(
     lists: &mut KeyedLists<K, V>,
     alloc: Global,
@@ -49,7 +49,7 @@ pub(crate) fn push_under<K: Ord + Copy + Drop, V: Copy + Drop>(
     Ok(())
 }
 
-/// One value less under the key. The answer is whether none is left.
+/// One value less under the key. Returns whether none is left.
 fn take_under<K: Ord + Copy + Drop, V: Copy + Drop>(
     lists: &mut KeyedLists<K, V>,
     key: &K,

@@ -16,7 +16,7 @@ use std::alloc::Global;
 /// The ages under each key, in order.
 pub(crate) type Lists = KeyedLists<Key, u64>;
 
-/// The age under the key that stands behind k others.
+/// The age under the key that stands after k others.
 pub(crate) fn nth_age(lists: &Lists, key: &Key, k: usize) -> Option<u64>
     ensures { result ≡ slice_get (ages_under lists.now key.now) k }
 {
@@ -50,7 +50,7 @@ fn drop_under(lists: &mut Lists, key: Key, age: u64)
     }
 }
 
-/// The age under each key of the operation, once. After want of memory it stands under some of them.
+/// The age under each key of the operation, once. After an allocation failure it stands under some of them.
 pub(crate) fn add_age(lists: &mut Lists, alloc: Global, op: &Op, age: u64) -> Result<(), NoMemory>
     ensures ok { OnOk result (Changed (is_among (keys_of op.now)) (λ ages. with_age ages age) (ages_under lists.old)
         (ages_under lists.new)) }

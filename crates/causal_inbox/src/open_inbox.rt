@@ -64,7 +64,7 @@ impl OpenInbox {
         }
     }
 
-    /// One operation more, behind those that wait. A `PushFault` hands the operation back, and the inbox is as before.
+    /// One operation more, after those that wait. A `PushFault` hands the operation back, and the inbox is as before.
     pub fn push(&mut self, op: Op) -> Result<(), PushFault>
         ensures ok { OnOk result (self.new ≡ record self.old { ops = self.old.ops ++ op ∷ [] }) }
         ensures full { (result ≡ Err (PushFault.Full op)) ↔ (length self.old.ops ≡ self.old.hold) }
@@ -103,14 +103,14 @@ impl OpenInbox {
         self.ops.get(position)
     }
 
-    /// The position of the operation that rests on the identifier behind k others that do.
+    /// The position of the operation that rests on the identifier after k others that do.
     pub fn nth_naming(&self, id: ElementId, k: usize) -> Option<usize>
         ensures { result ≡ slice_get (naming id self.now.ops) k }
     {
         self.index.nth(&named_key(id), k)
     }
 
-    /// One leaves, and those behind it come one position forward. A gap may stay.
+    /// One leaves, and those after it come one position forward. A gap may stay.
     pub fn remove(&mut self, position: usize) -> Op
         requires { position < length self.old.ops }
         ensures op { slice_get self.old.ops position ≡ Some result }

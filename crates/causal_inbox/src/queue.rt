@@ -57,7 +57,7 @@ impl<T: Drop> Queue<T> {
         self.items.push(item)
     }
 
-    /// Another item at the position. The answer is the one that stood there.
+    /// Another item at the position. Returns the one that stood there.
     pub fn put(&mut self, position: usize, item: T) -> T
         requires { position < length self.old }
         ensures before { slice_get self.old position ≡ Some result }
@@ -79,7 +79,7 @@ impl<T: Drop> Queue<T> {
     }
 }
 
-/// The item at the position behind those that are gone leaves, and the shorter side moves.
+/// The item at the position after those that are gone leaves, and the shorter side moves.
 fn close_up<T: Drop>(items: &mut Vec<T>, gone: &mut usize, position: usize, filler: T) -> T
     requires { gone.old + position < length items.old.items }
     ensures item { slice_get (drop gone.old items.old.items) position ≡ Some result }
@@ -96,7 +96,7 @@ fn close_up<T: Drop>(items: &mut Vec<T>, gone: &mut usize, position: usize, fill
     items.remove(at)
 }
 
-/// The item behind `first` and `position` others leaves, and the `position` others move up by one.
+/// The item after `first` and `position` others leaves, and the `position` others move up by one.
 fn move_up<T>(items: &mut [T], first: usize, position: usize, filler: T) -> T
     requires { first + position < length items.old }
     ensures item { slice_get (drop first items.old) position ≡ Some result }

@@ -42,7 +42,7 @@ fewer p q (y ∷ ys) n =
       ]
     ]
 
--- what holds of an element and of those behind it holds of all
+-- what holds of an element and of those after it holds of all
 of_each : (P : Identifier → Type 0) (y : Identifier) (ys : List Identifier) → P y → ((x : Identifier) → Contains ys x → P x) → (x : Identifier) → Contains (y ∷ ys) x → P x
 of_each P y ys here rest x c = elim (contains_cases y ys x c) [
   | inl s ↦ subst P s here

@@ -19,7 +19,7 @@ id replica counter = record { replica = replica; counter = counter }
 abbrev before : List Op
 before = Text (id 1 2) (id 1 0) (Some (id 1 1)) None 98 ∷ Text (id 1 1) (id 1 0) None None 97 ∷ Section (id 1 0) None None (codes "T") ∷ []
 
--- replica 2 deleted the b, and typed cd behind it
+-- replica 2 deleted the b, and typed cd after it
 abbrev changed : List Op
 changed = Text (id 2 1) (id 1 0) (Some (id 2 0)) None 100 ∷ Text (id 2 0) (id 1 0) (Some (id 1 2)) None 99 ∷ Delete (id 1 2) ∷ before
 

@@ -7,20 +7,20 @@ use Rattle.fugue_ids.specs.declared.op.Op.{Op}
 use Rattle.std.proofs.lemmas.List.Sums.{sum_by-cons}
 use Rattle.fugue_ids.specs.Identifiers.{Identifier}
 use Rattle.change_marks.specs.Authors.{authors_from, author_line, passage_line, section_authors}
-use Rattle.change_marks.specs.Steps.{letters_before, count_in, line_before, passage_lines, passage_behind}
+use Rattle.change_marks.specs.Steps.{letters_before, count_in, line_before, passage_lines, passage_after}
 use Rattle.change_marks.specs.Stretches.{Stretch, by_replica, joined_stretch}
 use Rattle.change_marks.specs.declared.passages.Passage.{Passage}
 
--- the lines behind letters of an open passage, where these stretches are to come
-abbrev lines_behind : ℕ → ℕ → List (Stretch ℕ) → List ℕ
-lines_behind r n [] = passage_line r n
-lines_behind r n (s ∷ ss) = if nat_eq r s.key then passage_line r (n + length s.elements) ++ flat_map author_line ss else passage_line r n ++ flat_map author_line (s ∷ ss)
+-- the lines after letters of an open passage, where these stretches are to come
+abbrev lines_after : ℕ → ℕ → List (Stretch ℕ) → List ℕ
+lines_after r n [] = passage_line r n
+lines_after r n (s ∷ ss) = if nat_eq r s.key then passage_line r (n + length s.elements) ++ flat_map author_line ss else passage_line r n ++ flat_map author_line (s ∷ ss)
 
 -- a letter in front of stretches, by the first one that comes of it
 abbrev first_of_joined : ℕ → Identifier → List (Stretch ℕ) → Type 0
 first_of_joined n x ss =
     (s : Stretch ℕ) × (rest : List (Stretch ℕ)) × (joined_stretch nat_eq x.replica x ss ≡ s ∷ rest) × (s.key ≡ x.replica)
-    × (lines_behind x.replica (n + 1) ss ≡ passage_line x.replica (n + length s.elements) ++ flat_map author_line rest)
+    × (lines_after x.replica (n + 1) ss ≡ passage_line x.replica (n + length s.elements) ++ flat_map author_line rest)
 
 alone : Identifier → Stretch ℕ
 alone x = record { key = x.replica; elements = x ∷ [] }
@@ -44,11 +44,11 @@ joins_first n x (s ∷ ss) =
       | inr e ↦ (alone x, s ∷ ss, ap after e, refl, ap lines e)
     ]
 
--- the line that a letter ends, and what comes behind the letter
+-- the line that a letter ends, and what comes after the letter
 turned : (p : Passage) (x : Identifier) (ss : List (Stretch ℕ))
-    → line_before (Some p) x ++ lines_behind x.replica (letters_before (Some p) x + 1) ss ≡ lines_behind p.replica p.count (joined_stretch nat_eq x.replica x ss)
+    → line_before (Some p) x ++ lines_after x.replica (letters_before (Some p) x + 1) ss ≡ lines_after p.replica p.count (joined_stretch nat_eq x.replica x ss)
 turned p x ss =
-    let before : Bool → List ℕ = λ b. (if b then [] else passage_line p.replica p.count) ++ lines_behind x.replica ((if b then p.count else 0) + 1) ss in
+    let before : Bool → List ℕ = λ b. (if b then [] else passage_line p.replica p.count) ++ lines_after x.replica ((if b then p.count else 0) + 1) ss in
     elim (cases_Bool (nat_eq p.replica x.replica)) [
       | inl e ↦
           let f = joins_first p.count x ss in
@@ -56,7 +56,7 @@ turned p x ss =
           let own : List ℕ = passage_line p.replica (p.count + length f.0.elements) ++ flat_map author_line f.1 in
           let other : List ℕ = passage_line p.replica p.count ++ flat_map author_line (f.0 ∷ f.1) in
           ap before e ∙ f.4 ∙ ap (λ r. passage_line r (p.count + length f.0.elements) ++ flat_map author_line f.1) (sym same)
-          ∙ sym (ap (lines_behind p.replica p.count) f.2 ∙ ap (λ k. if nat_eq p.replica k then own else other) f.3 ∙ ap (λ b. if b then own else other) e)
+          ∙ sym (ap (lines_after p.replica p.count) f.2 ∙ ap (λ k. if nat_eq p.replica k then own else other) f.3 ∙ ap (λ b. if b then own else other) e)
       | inr e ↦
           let f = joins_first 0 x ss in
           let count : 0 + length f.0.elements ≡ length f.0.elements = omega arith in
@@ -64,12 +64,12 @@ turned p x ss =
           let other : List ℕ = passage_line p.replica p.count ++ flat_map author_line (f.0 ∷ f.1) in
           ap before e
           ∙ ap (λ l. passage_line p.replica p.count ++ l) (f.4 ∙ (λ i. passage_line (sym f.3 i) (count i) ++ flat_map author_line f.1))
-          ∙ sym (ap (lines_behind p.replica p.count) f.2 ∙ ap (λ k. if nat_eq p.replica k then own else other) f.3 ∙ ap (λ b. if b then own else other) e)
+          ∙ sym (ap (lines_after p.replica p.count) f.2 ∙ ap (λ k. if nat_eq p.replica k then own else other) f.3 ∙ ap (λ b. if b then own else other) e)
     ]
 
-lines_of_open : (p : Passage) (xs : List Identifier) → passage_lines (Some p) xs ≡ lines_behind p.replica p.count (by_replica xs)
+lines_of_open : (p : Passage) (xs : List Identifier) → passage_lines (Some p) xs ≡ lines_after p.replica p.count (by_replica xs)
 lines_of_open p [] = refl
-lines_of_open p (x ∷ xs) = ap (λ l. line_before (Some p) x ++ l) (lines_of_open (passage_behind (Some p) x) xs) ∙ turned p x (by_replica xs)
+lines_of_open p (x ∷ xs) = ap (λ l. line_before (Some p) x ++ l) (lines_of_open (passage_after (Some p) x) xs) ∙ turned p x (by_replica xs)
 
 -- all lines are those of the runs
 pub lines_of_passages : (xs : List Identifier) → passage_lines None xs ≡ flat_map author_line (by_replica xs)
@@ -77,7 +77,7 @@ lines_of_passages [] = refl
 lines_of_passages (x ∷ xs) =
     let f = joins_first 0 x (by_replica xs) in
     let count : 0 + length f.0.elements ≡ length f.0.elements = omega arith in
-    lines_of_open (passage_behind None x) xs ∙ f.4 ∙ (λ i. passage_line (sym f.3 i) (count i) ++ flat_map author_line f.1) ∙ sym (ap (flat_map author_line) f.2)
+    lines_of_open (passage_after None x) xs ∙ f.4 ∙ (λ i. passage_line (sym f.3 i) (count i) ++ flat_map author_line f.1) ∙ sym (ap (flat_map author_line) f.2)
 
 -- the letters that are to come begin with the one that was looked up
 pub first_is : (xs : List Identifier) (x : Identifier) → Some x ≡ slice_get xs 0 → xs ≡ x ∷ drop 1 xs
@@ -106,8 +106,8 @@ pub all_letters : (xs : List Identifier) → sum_by size (by_replica xs) ≡ len
 all_letters [] = refl
 all_letters (x ∷ xs) = joined_size x.replica x (by_replica xs) ∙ ap suc (all_letters xs)
 
--- a passage has at most one letter more behind a letter
-pub counts_on : (begun : Option Passage) (x : Identifier) → count_in (Some (passage_behind begun x)) ≤ count_in begun + 1
+-- a passage has at most one letter more after a letter
+pub counts_on : (begun : Option Passage) (x : Identifier) → count_in (Some (passage_after begun x)) ≤ count_in begun + 1
 counts_on None x = omega arith
 counts_on (Some p) x = elim (nat_eq p.replica x.replica) as (λ (b : Bool). (if b then p.count else 0) + 1 ≤ p.count + 1) [ true ↦ omega arith | false ↦ omega arith ]
 
@@ -116,13 +116,13 @@ drop_here xs i s below is =
     let place : suc i ≡ i + 1 = omega arith in
     drop-cons xs i s below ∙ (λ j. sym is j ∷ drop (place j) xs)
 
--- what is reported of sections from one on is what is reported of it, and of those behind it
+-- what is reported of sections from one on is what is reported of it, and of those after it
 pub authors_next : (h : List Op) (xs : List Identifier) (i : ℕ) (s : Identifier) → i < length xs → s ≡ get_or xs i s
     → authors_from h (suc i) (drop i xs) ≡ section_authors h (i + 1) s ++ authors_from h (suc (i + 1)) (drop (i + 1) xs)
 authors_next h xs i s below is =
     let place : suc i ≡ i + 1 = omega arith in
     ap (authors_from h (suc i)) (drop_here xs i s below is) ∙ ap (λ k. section_authors h k s ++ authors_from h (suc k) (drop (i + 1) xs)) place
 
--- and nothing is behind the last one
+-- and nothing is after the last one
 pub authors_none : (h : List Op) (xs : List Identifier) (i : ℕ) → length xs ≤ i → authors_from h (suc i) (drop i xs) ≡ []
 authors_none h xs i past = ap (authors_from h (suc i)) (drop_all i xs past)

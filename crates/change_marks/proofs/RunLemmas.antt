@@ -10,7 +10,7 @@ use Rattle.fugue_ids.specs.declared.op.Op.{Op}
 use Rattle.fugue_ids.proofs.TextLemmas.{encode-append}
 use Rattle.change_marks.specs.Changes.{is_marked}
 use Rattle.change_marks.specs.Marks.{closing_mark, letter_of, run_letters, mark_eq, text_with_marks, opening}
-use Rattle.change_marks.specs.Steps.{element_part, is_changed_element, open_behind, parts_from, turn_of_run}
+use Rattle.change_marks.specs.Steps.{element_part, is_changed_element, open_after, parts_from, turn_of_run}
 use Rattle.change_marks.specs.Stretches.{Stretch, joined_stretch, stretches}
 use Rattle.change_marks.specs.declared.mark.Mark.{Mark}
 use Rattle.change_marks.specs.declared.mark.Mark.TheVariants.{Kept, New, Gone}
@@ -30,7 +30,7 @@ mark_eq-true Gone Gone e = refl
 abbrev inside : List Op → Stretch Mark → List (Stretch Mark) → List ℕ
 inside h r rs = encode_utf8_all (run_letters h r) ++ (closing_mark r.key ++ text_with_marks h rs)
 
--- what stands behind the start of a run of a mark, where these stretches are to come
+-- what stands after the start of a run of a mark, where these stretches are to come
 abbrev behind : List Op → Mark → List (Stretch Mark) → List ℕ
 behind h m [] = closing_mark m
 behind h m (r ∷ rs) = if mark_eq m r.key then inside h r rs else closing_mark m ++ text_with_marks h (r ∷ rs)
@@ -93,14 +93,14 @@ turned h m k x ss =
           ∙ sym (ap (behind h m) f.2 ∙ ap (λ z. if mark_eq m z then inside h f.0 f.1 else closing_mark m ++ text_with_marks h (f.0 ∷ f.1)) f.3 ∙ ap (rest k) e)
     ]
 
--- what is written behind the start of a run
-parts_behind : (h : List Op) (key : Identifier → Option Mark) (m : Mark) (xs : List Identifier) → parts_from h key (Some m) xs ≡ behind h m (stretches mark_eq key xs)
-parts_behind h key m [] = refl
-parts_behind h key m (x ∷ xs) =
+-- what is written after the start of a run
+parts_after : (h : List Op) (key : Identifier → Option Mark) (m : Mark) (xs : List Identifier) → parts_from h key (Some m) xs ≡ behind h m (stretches mark_eq key xs)
+parts_after h key m [] = refl
+parts_after h key m (x ∷ xs) =
     elim (key x) as (λ (o : Option Mark). element_part h (Some m) o x
-    ++ parts_from h key (open_behind (Some m) o) xs ≡ behind h m (elim o [ None ↦ stretches mark_eq key xs | Some k ↦ joined_stretch mark_eq k x (stretches mark_eq key xs) ])) [
-      | None ↦ parts_behind h key m xs
-      | Some k ↦ ap (λ l. (turn_of_run (Some m) k ++ encode_utf8_all (letter_of h x)) ++ l) (parts_behind h key k xs) ∙ turned h m k x (stretches mark_eq key xs)
+    ++ parts_from h key (open_after (Some m) o) xs ≡ behind h m (elim o [ None ↦ stretches mark_eq key xs | Some k ↦ joined_stretch mark_eq k x (stretches mark_eq key xs) ])) [
+      | None ↦ parts_after h key m xs
+      | Some k ↦ ap (λ l. (turn_of_run (Some m) k ++ encode_utf8_all (letter_of h x)) ++ l) (parts_after h key k xs) ∙ turned h m k x (stretches mark_eq key xs)
     ]
 
 -- all that is written is the runs in their marks
@@ -108,13 +108,13 @@ pub parts_marked : (h : List Op) (key : Identifier → Option Mark) (xs : List I
 parts_marked h key [] = refl
 parts_marked h key (x ∷ xs) =
     elim (key x) as (λ (o : Option Mark). element_part h None o x
-    ++ parts_from h key (open_behind None o) xs ≡ text_with_marks h
+    ++ parts_from h key (open_after None o) xs ≡ text_with_marks h
     (elim o [ None ↦ stretches mark_eq key xs | Some k ↦ joined_stretch mark_eq k x (stretches mark_eq key xs) ])) [
       | None ↦ parts_marked h key xs
       | Some k ↦
           let ss = stretches mark_eq key xs in
           let f = joins_first h k x ss in
-          ap (λ l. (opening k ++ encode_utf8_all (letter_of h x)) ++ l) (parts_behind h key k xs)
+          ap (λ l. (opening k ++ encode_utf8_all (letter_of h x)) ++ l) (parts_after h key k xs)
           ∙ append_assoc (opening k) (encode_utf8_all (letter_of h x)) (behind h k ss)
           ∙ ap (λ l. opening k ++ l) f.4
           ∙ sym (ap (text_with_marks h) f.2 ∙ simp append_assoc (ap (λ z. opening z ++ inside h f.0 f.1) f.3))

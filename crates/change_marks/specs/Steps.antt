@@ -30,15 +30,15 @@ abbrev pub element_part : List Op → Option Mark → Option Mark → Identifier
 element_part h begun None x = []
 element_part h begun (Some mark) x = turn_of_run begun mark ++ encode_utf8_all (letter_of h x)
 
--- the run that is open behind it
-abbrev pub open_behind : {K : Type 0} → Option K → Option K → Option K
-open_behind begun None = begun
-open_behind begun (Some mark) = Some mark
+-- the run that is open after it
+abbrev pub open_after : {K : Type 0} → Option K → Option K → Option K
+open_after begun None = begun
+open_after begun (Some mark) = Some mark
 
 -- what elements add, and the end of the last run
 abbrev pub parts_from : List Op → (Identifier → Option Mark) → Option Mark → List Identifier → List ℕ
 parts_from h key begun [] = closing_of begun
-parts_from h key begun (x ∷ xs) = element_part h begun (key x) x ++ parts_from h key (open_behind begun (key x)) xs
+parts_from h key begun (x ∷ xs) = element_part h begun (key x) x ++ parts_from h key (open_after begun (key x)) xs
 
 -- the line of the open passage, where the next letter is of another replica
 abbrev pub passage_end : Option Passage → List ℕ
@@ -59,9 +59,9 @@ count_in (Some p) = p.count
 abbrev pub letters_before : Option Passage → Identifier → ℕ
 letters_before begun x = if continues_passage begun x then count_in begun else 0
 
--- the passage that is open behind a letter
-abbrev pub passage_behind : Option Passage → Identifier → Passage
-passage_behind begun x = record { replica = x.replica; count = letters_before begun x + 1 }
+-- the passage that is open after a letter
+abbrev pub passage_after : Option Passage → Identifier → Passage
+passage_after begun x = record { replica = x.replica; count = letters_before begun x + 1 }
 
 -- the line of a passage that a letter ends
 abbrev pub line_before : Option Passage → Identifier → List ℕ
@@ -70,7 +70,7 @@ line_before begun x = if continues_passage begun x then [] else passage_end begu
 -- the lines of letters, where a passage is begun
 abbrev pub passage_lines : Option Passage → List Identifier → List ℕ
 passage_lines begun [] = passage_end begun
-passage_lines begun (x ∷ xs) = line_before begun x ++ passage_lines (Some (passage_behind begun x)) xs
+passage_lines begun (x ∷ xs) = line_before begun x ++ passage_lines (Some (passage_after begun x)) xs
 
 -- the element is in a run that has marks around it
 abbrev pub is_changed_element : Option Mark → Bool

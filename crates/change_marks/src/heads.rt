@@ -36,7 +36,7 @@ pub(crate) fn head_is_marked(then: &Headings, now: &Headings, section: ElementId
     is_retitled(then, now, section) || is_moved(then, now, section)
 }
 
-/// What stands behind the heading of a section that was moved.
+/// What stands after the heading of a section that was moved.
 fn moved<'a>(then: &'a Headings<'a>, now: &'a Headings<'a>, section: ElementId) -> &'a [u8]
     ensures { result.now ≡ moved_mark then.now now.now section }
 {

@@ -1,4 +1,4 @@
-//! What became of an element.
+//! What became of a letter since a moment: it stayed, came, or was deleted.
 ghost use Rattle.std.specs.Prelude.{◌≡◌};
 ghost use Rattle.change_marks.specs.Marks.{as_dropped as dropped_as, mark_of as mark_in, printed_mark as printed_in};
 

@@ -1,4 +1,4 @@
-//! What begins and ends a run, put where one run ends and the next one begins.
+//! The letters of a run, between the signs of CriticMarkup with which it begins and ends.
 ghost use Rattle.std.specs.Prelude.{◌≡◌, ◌++◌, Some, option_to_list};
 ghost use Rattle.std.specs.Str.{encode_utf8_all};
 ghost use Rattle.fugue_ids.specs.Gathers.{GathersText};
@@ -107,7 +107,7 @@ fn put_letter<O: Out>(
     }
 }
 
-/// Puts an element with a mark behind a run.
+/// Puts an element with a mark after a run.
 pub(crate) fn put_marked<O: Out>(
     gather: &mut Gather,
     output: &mut O,

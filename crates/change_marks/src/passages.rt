@@ -1,9 +1,9 @@
-//! The letters of a section, counted by who made them.
+//! The letters of a section in passages of one replica each, and a line for each passage.
 ghost use Rattle.std.specs.Prelude.{◌≡◌, ◌<◌, ◌+◌, ◌^◌, OnOk, Some, flat_map};
 ghost use Rattle.fugue_ids.specs.Gathers.{GathersText};
 ghost use Rattle.run_store.specs.Cells.{cell_ids, cells_shown};
 ghost use Rattle.change_marks.specs.Authors.{author_line, passage_line};
-ghost use Rattle.change_marks.specs.Steps.{count_in, continues_passage as goes_on_in, line_before, passage_behind, passage_end};
+ghost use Rattle.change_marks.specs.Steps.{count_in, continues_passage as goes_on_in, line_before, passage_after, passage_end};
 ghost use Rattle.change_marks.specs.Stretches.{by_replica};
 
 use fugue_ids::{ElementId, Failed, Gather, Out};
@@ -27,10 +27,10 @@ fn goes_on(begun: Option<Passage>, id: ElementId) -> bool
     }
 }
 
-/// The passage that is open behind the letter.
+/// The passage that is open after the letter.
 fn behind(begun: Option<Passage>, id: ElementId) -> Passage
     requires { count_in begun + 1 < 2 ^ 64 }
-    ensures { result ≡ passage_behind begun id }
+    ensures { result ≡ passage_after begun id }
 {
     let replica = id.replica;
     match begun {
@@ -87,7 +87,7 @@ fn put_letter<O: Out>(
     requires { count_in begun.old + 1 < 2 ^ 64 }
     ensures text { GathersText (O.seen output.old) (O.seen output.new) gather.old gather.new result
         (line_before begun.old id) }
-    ensures begun { OnOk result (begun.new ≡ Some (passage_behind begun.old id)) }
+    ensures begun { OnOk result (begun.new ≡ Some (passage_after begun.old id)) }
 {
     put_line_before(gather, output, *begun, id)?;
     *begun = Some(behind(*begun, id));

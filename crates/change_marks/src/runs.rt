@@ -5,7 +5,7 @@ ghost use Rattle.fugue_ids.specs.Gathers.{GathersText};
 ghost use Rattle.run_store.specs.Cells.{cell_ids};
 ghost use Rattle.change_marks.specs.Changes.{is_marked};
 ghost use Rattle.change_marks.specs.Marks.{mark_eq, mark_of, text_with_marks, printed_mark as printed_in};
-ghost use Rattle.change_marks.specs.Steps.{element_part, is_changed_element, open_behind};
+ghost use Rattle.change_marks.specs.Steps.{element_part, is_changed_element, open_after};
 ghost use Rattle.change_marks.specs.Stretches.{stretches};
 
 use crate::Mark;
@@ -15,7 +15,7 @@ use fugue_ids::{ElementId, Failed, Gather, Out};
 use replica_core::Replica;
 use section_list::SectionList;
 
-/// Puts an element behind the open run.
+/// Puts an element after the open run.
 fn put_element<O: Out>(
     gather: &mut Gather,
     output: &mut O,
@@ -29,7 +29,7 @@ fn put_element<O: Out>(
         (element_part replica.now.held.history begun.old
         (printed_in is_dropped front.now.held.history replica.now.held.history id) id) }
     ensures begun { OnOk result (begun.new
-        ≡ open_behind begun.old (printed_in is_dropped front.now.held.history replica.now.held.history id)) }
+        ≡ open_after begun.old (printed_in is_dropped front.now.held.history replica.now.held.history id)) }
 {
     match printed_mark(is_dropped, front, replica, id) {
         Some(mark) => {

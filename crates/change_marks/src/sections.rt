@@ -1,4 +1,4 @@
-//! What is reported of each section.
+//! Which sections changed since a moment, and what is written of each.
 ghost use Rattle.std.specs.Prelude.{◌≡◌, ◌++◌, ◌∷◌, [], Contains, length, true};
 ghost use Rattle.fugue_ids.specs.Gathers.{GathersText};
 ghost use Rattle.origin_model.specs.declared.operations.Place.TheVariants.{Catalogue as catalogue, Section as within};

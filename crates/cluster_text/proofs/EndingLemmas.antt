@@ -6,10 +6,10 @@ use Rattle.ucd_derived.specs.IndicConjunctBreak.{indic_conjunct_break}
 use Rattle.ucd_derived.specs.declared.IndicConjunctBreak.{IndicConjunctBreak}
 use Rattle.ucd_derived.specs.declared.IndicConjunctBreak.TheVariants as InCb
 use Rattle.unicode_segmentation.specs.Grapheme.{ends_in_half_flag, ends_in_linker, is_regional}
-use Rattle.cluster_text.specs.Borders.{closes, ends_whole, is_indicator, is_mark, onto}
+use Rattle.cluster_text.specs.Boundaries.{closes, ends_whole, is_indicator, is_mark, onto}
 use Rattle.cluster_text.specs.Endings.{IsEnding, ending_with, stays_open}
 use Rattle.cluster_text.specs.declared.ending.Ending.{Ending}
-use Rattle.cluster_text.proofs.BorderLemmas.{nul_closes, onto-append}
+use Rattle.cluster_text.proofs.BoundaryLemmas.{nul_closes, onto-append}
 
 pub ending-none : IsEnding [] (record { last = 0; half = false; conjunct = false })
 unfolding ends_in_half_flag ends_in_linker

@@ -12,11 +12,11 @@ use Rattle.std.specs.List.{splice}
 use Rattle.std.specs.Str.{IsAscii, IsUtf8, all_scalars, chars}
 use Rattle.unicode_segmentation.specs.Grapheme.{is_grapheme_break}
 use Rattle.unicode_segmentation.specs.Segments.{cut, segments}
-use Rattle.cluster_text.specs.Borders.{first_opens, last_closes, stands_alone}
+use Rattle.cluster_text.specs.Boundaries.{first_opens, last_closes, stands_alone}
 use Rattle.cluster_text.specs.Clusters.{clusters, scalars, span}
 use Rattle.cluster_text.specs.Parts.{between_nuls, inside, IsIndex, scalar_count, whole}
 use Rattle.cluster_text.specs.declared.part.Part.{Part}
-use Rattle.cluster_text.proofs.BorderLemmas.{closed_by_last, cut-enclosed, nul_closes, nul_opens}
+use Rattle.cluster_text.proofs.BoundaryLemmas.{closed_by_last, cut-enclosed, nul_closes, nul_opens}
 use Rattle.cluster_text.proofs.TextLemmas.{is_alone, last_closes-append, scalars-append, scalars-clusters, scalars-drop, scalars-take}
 use Rattle.cluster_text.proofs.TreeLemmas.{scalars-append as sums-append}
 

@@ -1,6 +1,6 @@
 pub mod ScalarLemmas
 pub mod CutLemmas
-pub mod BorderLemmas
+pub mod BoundaryLemmas
 pub mod EndingLemmas
 pub mod TextLemmas
 pub mod SingleLemmas

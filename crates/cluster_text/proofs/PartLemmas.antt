@@ -4,11 +4,11 @@ use Rattle.std.proofs.lemmas.List.{drop_more}
 use Rattle.std.proofs.lemmas.Str.{chars-nil, chars-append, IsUtf8-append, IsUtf8-nil, IsUtf8-string_bytes}
 use Rattle.std.specs.Prelude.{string_bytes}
 use Rattle.std.specs.Str.{IsUtf8, chars}
-use Rattle.cluster_text.specs.Borders.{first_opens}
+use Rattle.cluster_text.specs.Boundaries.{first_opens}
 use Rattle.cluster_text.specs.Clusters.{clusters}
 use Rattle.cluster_text.specs.Parts.{scalar_count, whole}
 use Rattle.cluster_text.specs.declared.part.Part.{Part}
-use Rattle.cluster_text.proofs.BorderLemmas.{apart-closed}
+use Rattle.cluster_text.proofs.BoundaryLemmas.{apart-closed}
 use Rattle.cluster_text.proofs.TextLemmas.{alone, clusters-nil, first_opens-append, first_opens-some}
 
 pub whole-utf8 : (parts : List Part) → IsUtf8 (whole parts)

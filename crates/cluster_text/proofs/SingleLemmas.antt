@@ -16,9 +16,9 @@ use Rattle.ucd_derived.proofs.IndicConjunctBreakLemmas.{indic_conjunct_break_ste
 use Rattle.ucd_table.proofs.Facts.{Stepped-below}
 use Rattle.unicode_segmentation.specs.Grapheme.{is_grapheme_break}
 use Rattle.unicode_segmentation.specs.Segments.{Rule, cut, segments}
-use Rattle.cluster_text.specs.Borders.{closes, opens, first_opens, last_closes, is_free, is_joining, is_linking, is_plain, is_special}
+use Rattle.cluster_text.specs.Boundaries.{closes, opens, first_opens, last_closes, is_free, is_joining, is_linking, is_plain, is_special}
 use Rattle.cluster_text.specs.Clusters.{clusters, scalars}
-use Rattle.cluster_text.proofs.BorderLemmas.{apart-closed, closed_by_last}
+use Rattle.cluster_text.proofs.BoundaryLemmas.{apart-closed, closed_by_last}
 use Rattle.cluster_text.proofs.CutLemmas.{attach, attach-nil}
 use Rattle.cluster_text.proofs.TextLemmas.{AllScalars, clusters-nil, concat-cut, cut_scalars, scalars-pieces}
 use Rattle.std.proofs.lemmas.Bool.{and_from}

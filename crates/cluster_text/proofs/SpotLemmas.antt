@@ -8,11 +8,11 @@ use Rattle.std.proofs.lemmas.Str.{chars-append, encodes-append, encodes-chars, I
 use Rattle.std.specs.Prelude.{encode_utf8_all, string_bytes}
 use Rattle.std.specs.List.{splice}
 use Rattle.std.specs.Str.{IsUtf8, chars}
-use Rattle.cluster_text.specs.Borders.{first_opens, is_closed, last_closes, stands_alone}
+use Rattle.cluster_text.specs.Boundaries.{first_opens, is_closed, last_closes, stands_alone}
 use Rattle.cluster_text.specs.Parts.{IsGathered, IsSpot, scalar_count, whole}
 use Rattle.cluster_text.specs.Trees.{IsAt}
 use Rattle.cluster_text.specs.declared.part.Part.{Part}
-use Rattle.cluster_text.proofs.BorderLemmas.{closed_by_last}
+use Rattle.cluster_text.proofs.BoundaryLemmas.{closed_by_last}
 use Rattle.cluster_text.proofs.PartLemmas.{chars-whole, chars-first, scalar_count-append, scalar_count-first, scalar_count-none, whole-append, whole-utf8}
 use Rattle.cluster_text.proofs.TextLemmas.{alone, back_chars, first_opens-append, first_opens-take, front_chars, front_utf8, is_alone, last_closes-append, last_closes-drop}
 
@@ -129,7 +129,7 @@ module _ (parts : List Part) (at end i j m n : ℕ) (one : IsSpot parts at i m) 
       ∙ ap₂ (λ (p : Part) (ps : List Part). encode_utf8_all (drop n (chars (string_bytes p.text))) ++ whole ps) (sym (at_spot parts end j n two last last_at))
       (sym (spot-back parts end j n two))
 
-  -- the text and what stands behind it
+  -- the text and what stands after it
   rest_is : text ++ whole (drop behind parts) ≡ front ++ (new ++ (back ++ whole others))
   rest_is =
       let k = behind - (j + 1) in

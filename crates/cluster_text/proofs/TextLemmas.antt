@@ -10,12 +10,12 @@ use Rattle.std.specs.List.{concat}
 use Rattle.std.specs.Str.{IsUtf8, IsCharBoundary, all_scalars, chars}
 use Rattle.unicode_segmentation.specs.Grapheme.{is_grapheme_break}
 use Rattle.unicode_segmentation.specs.Segments.{Rule, cut, segments}
-use Rattle.cluster_text.specs.Borders.{opens, first_opens, is_closed, last_closes, stands_alone}
+use Rattle.cluster_text.specs.Boundaries.{opens, first_opens, is_closed, last_closes, stands_alone}
 use Rattle.cluster_text.specs.Clusters.{clusters, scalars}
 use Rattle.cluster_text.specs.Cuts.{IsCut, IsPassed, IsWhole, SplitsAt}
 use Rattle.cluster_text.specs.Endings.{IsEnding, ends_cluster, ending_with}
 use Rattle.cluster_text.specs.declared.ending.Ending.{Ending}
-use Rattle.cluster_text.proofs.BorderLemmas.{closed-behind}
+use Rattle.cluster_text.proofs.BoundaryLemmas.{closed-behind}
 use Rattle.cluster_text.proofs.CutLemmas.{attach}
 use Rattle.cluster_text.proofs.EndingLemmas.{ending-next}
 
@@ -206,48 +206,48 @@ count_some text rest (suc n) splits less = omega arith
 
 pub cut_at_end : (text rest : List ℕ) (ending : Ending) → IsPassed text rest ending → rest ≡ [] → 0 < length text → IsCut text rest
 cut_at_end text rest ending way none some =
-    record { count = way.count; splits = way.splits; some = count_some text rest way.count way.splits (omega (arith, ap length none)); border = inl none }
+    record { count = way.count; splits = way.splits; some = count_some text rest way.count way.splits (omega (arith, ap length none)); boundary = inl none }
 
-pub cut_at_border : (text rest next : List ℕ) (ending : Ending) (c : ℕ) → IsPassed text rest ending → length rest < length text → rest ≡ encode_utf8 c ++ next
+pub cut_at_boundary : (text rest next : List ℕ) (ending : Ending) (c : ℕ) → IsPassed text rest ending → length rest < length text → rest ≡ encode_utf8 c ++ next
     → ends_cluster ending ≡ true → opens c ≡ true → IsCut text rest
-cut_at_border text rest next ending c way less is closed opening =
+cut_at_boundary text rest next ending c way less is closed opening =
     record {
       count = way.count;
       splits = way.splits;
       some = count_some text rest way.count way.splits less;
-      border = inr (sym way.ends.whole_is ∙ closed, rw (chars_past_char rest next c way.splits.utf8 is) opening);
+      boundary = inr (sym way.ends.whole_is ∙ closed, rw (chars_past_char rest next c way.splits.utf8 is) opening);
     }
 
-module _ (text rest : List ℕ) (border : IsCut text rest) (utf8 : IsUtf8 text) (whole : stands_alone text ≡ true) where
+module _ (text rest : List ℕ) (boundary : IsCut text rest) (utf8 : IsUtf8 text) (whole : stands_alone text ≡ true) where
   -- the front stands alone
-  pub front_alone : (front : List ℕ) → front ≡ encode_utf8_all (take border.count (chars text)) → stands_alone front ≡ true
+  pub front_alone : (front : List ℕ) → front ≡ encode_utf8_all (take boundary.count (chars text)) → stands_alone front ≡ true
   front_alone front is =
-      let n = border.count in
+      let n = boundary.count in
       let parts = alone text whole in
       let chars_are : chars front ≡ take n (chars text) = ap chars is ∙ front_chars text utf8 n in
       let closed : is_closed (take n (chars text)) ≡ true =
-      elim border.border [
+      elim boundary.boundary [
         | inl none ↦
-            let nothing : drop n (chars text) ≡ [] = sym border.splits.rest_is ∙ ap chars none ∙ chars-nil in
+            let nothing : drop n (chars text) ≡ [] = sym boundary.splits.rest_is ∙ ap chars none ∙ chars-nil in
             let short : length (chars text) ≤ n = omega (arith, ap length nothing, length-drop n (chars text)) in
             ap is_closed (take_all n (chars text) short) ∙ parts.1
         | inr both ↦ both.0
       ] in
-      is_alone front (ap first_opens chars_are ∙ first_opens-take n (chars text) border.some parts.0) (ap is_closed chars_are ∙ closed)
+      is_alone front (ap first_opens chars_are ∙ first_opens-take n (chars text) boundary.some parts.0) (ap is_closed chars_are ∙ closed)
 
   -- so does what is left, if there is any
   pub rest_alone : IsWhole rest
   rest_alone =
-      elim border.border [
+      elim boundary.boundary [
         | inl none ↦ inl none
         | inr both ↦
-            let n = border.count in
+            let n = boundary.count in
             let all = ap is_closed (take-append-drop n (chars text)) ∙ (alone text whole).1 in
-            inr (is_alone rest both.1 (ap is_closed border.splits.rest_is ∙ closed-behind (take n (chars text)) (drop n (chars text)) both.0 all))
+            inr (is_alone rest both.1 (ap is_closed boundary.splits.rest_is ∙ closed-behind (take n (chars text)) (drop n (chars text)) both.0 all))
       ]
 
   pub cut_shorter : length rest < length text
   cut_shorter =
-      let front = encode_utf8_all (take border.count (chars text)) in
+      let front = encode_utf8_all (take boundary.count (chars text)) in
       let some = alone-some front (front_alone front refl) in
-      omega (arith, some, ap length border.splits.text_is, length-append front rest)
+      omega (arith, some, ap length boundary.splits.text_is, length-append front rest)

@@ -12,11 +12,11 @@ clusters text = graphemes true text
 abbrev pub scalars : List (List ℕ) → ℕ
 scalars clusters = sum_by (λ cluster. length (chars cluster)) clusters
 
--- the scalars in front of the cluster `at`, and those of the n clusters from there on
+-- how many scalars stand before the cluster `at`, and how many the n clusters from there on have
 abbrev pub span : List (List ℕ) → (at n : ℕ) → ℕ × ℕ
 span clusters at n = (scalars (take at clusters), scalars (take n (drop at clusters)))
 
--- the first n of some clusters were passed, with so many scalars, and the others are left
+-- the first n clusters were passed, which have `count` scalars; the others are left
 pub record Passed (old new : List (List ℕ)) (n count : ℕ) : Type 0 where
   pub enough : n ≤ length old
   pub left : new ≡ drop n old

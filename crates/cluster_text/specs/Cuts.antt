@@ -1,7 +1,7 @@
 -- Where texts are cut.
 use Rattle.std.specs.Prelude.{◌≡◌, ◌⊎◌, ℕ, ◌<◌, true, List, [], ◌++◌, take, drop, encode_utf8_all}
 use Rattle.std.specs.Str.{IsUtf8, chars}
-use Rattle.cluster_text.specs.Borders.{first_opens, is_closed, stands_alone}
+use Rattle.cluster_text.specs.Boundaries.{first_opens, is_closed, stands_alone}
 use Rattle.cluster_text.specs.Endings.{IsEnding}
 use Rattle.cluster_text.specs.declared.ending.Ending.{Ending}
 
@@ -9,7 +9,7 @@ use Rattle.cluster_text.specs.declared.ending.Ending.{Ending}
 abbrev pub IsWhole : List ℕ → Type 0
 IsWhole text = (text ≡ []) ⊎ (stands_alone text ≡ true)
 
--- the text is split behind its first n scalars, and `rest` is what is left
+-- the text is split after its first n scalars, and `rest` is what is left
 pub record SplitsAt (text rest : List ℕ) (n : ℕ) : Type 0 where
   pub utf8 : IsUtf8 rest
   pub text_is : text ≡ encode_utf8_all (take n (chars text)) ++ rest
@@ -26,4 +26,4 @@ pub record IsCut (text rest : List ℕ) : Type 0 where
   pub count : ℕ
   pub splits : SplitsAt text rest count
   pub some : 0 < count
-  pub border : (rest ≡ []) ⊎ ((is_closed (take count (chars text)) ≡ true) × (first_opens (chars rest) ≡ true))
+  pub boundary : (rest ≡ []) ⊎ ((is_closed (take count (chars text)) ≡ true) × (first_opens (chars rest) ≡ true))

@@ -5,10 +5,10 @@ use Rattle.ucd_derived.specs.IndicConjunctBreak.{indic_conjunct_break}
 use Rattle.ucd_derived.specs.declared.IndicConjunctBreak.{IndicConjunctBreak}
 use Rattle.ucd_derived.specs.declared.IndicConjunctBreak.TheVariants as InCb
 use Rattle.unicode_segmentation.specs.Grapheme.{ends_in_half_flag, ends_in_linker, is_regional}
-use Rattle.cluster_text.specs.Borders.{closes, is_closed, is_indicator, is_mark, onto}
+use Rattle.cluster_text.specs.Boundaries.{closes, is_closed, is_indicator, is_mark, onto}
 use Rattle.cluster_text.specs.declared.ending.Ending.{Ending}
 
--- whether a conjunct is open behind a character of the class, where one was or was not before it
+-- whether a conjunct is open after a character of the class, where one was or was not before it
 abbrev pub stays_open : IndicConjunctBreak → Bool → Bool
 stays_open InCb.Linker before = true
 stays_open InCb.Extend before = before
@@ -23,7 +23,7 @@ ending_with ending c =
       conjunct = stays_open (indic_conjunct_break c) ending.conjunct;
     }
 
--- behind such an ending a cluster ends
+-- after such an ending a cluster ends
 abbrev pub ends_cluster : Ending → Bool
 ends_cluster ending = closes ending.last || ((is_indicator ending.last && not ending.half) || (is_mark ending.last && not ending.conjunct))
 

@@ -1,5 +1,5 @@
 pub mod Clusters
-pub mod Borders
+pub mod Boundaries
 pub mod Endings
 pub mod Cuts
 pub mod Parts

@@ -12,7 +12,7 @@ whole parts = concat (map (λ part. string_bytes part.text) parts)
 abbrev pub scalar_count : List Part → ℕ
 scalar_count parts = length (chars (whole parts))
 
--- a text between two NULs: a cluster ends behind the first and before the last, whatever the text is
+-- a text between two NULs: a cluster ends after the first and before the last, whatever the text is
 abbrev pub between_nuls : List ℕ → List ℕ
 between_nuls text = 0 ∷ text ++ 0 ∷ []
 

@@ -1,11 +1,11 @@
 //! How a text is cut into parts.
 ghost use Rattle.std.specs.Prelude.{◌≡◌, ◌<◌, ◌++◌, true, length, IfOk};
 ghost use Rattle.std.specs.Str.{IsUtf8};
-ghost use Rattle.cluster_text.specs.Borders.{stands_alone};
+ghost use Rattle.cluster_text.specs.Boundaries.{stands_alone};
 ghost use Rattle.cluster_text.specs.Cuts.{IsCut, IsWhole};
 ghost use Rattle.cluster_text.specs.Parts.{whole};
 
-use crate::border::opens;
+use crate::boundary::opens;
 use crate::ending::Ending;
 use crate::part::Part;
 use crate::scalars::split_first;
@@ -49,7 +49,7 @@ fn split_part(text: &str) -> (&str, &str)
     text.split_at(text.len() - rest.len())
 }
 
-/// What stands behind the first part of a long text.
+/// What stands after the first part of a long text.
 fn pass_part(text: &str) -> &str
     requires { 0 < length text.now }
     ensures { IsCut text.now result.now }

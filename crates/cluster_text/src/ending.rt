@@ -2,13 +2,13 @@
 ghost use Rattle.std.specs.Prelude.{◌≡◌, ◌&&◌, [], not};
 ghost use Rattle.std.specs.List.{fold};
 ghost use Rattle.std.specs.Str.{chars};
-ghost use Rattle.cluster_text.specs.Borders.{is_indicator as is_indicator_on, is_mark as is_mark_on};
+ghost use Rattle.cluster_text.specs.Boundaries.{is_indicator as is_indicator_on, is_mark as is_mark_on};
 ghost use Rattle.cluster_text.specs.Endings.{IsEnding, ends_cluster, ending_with};
 
-use crate::border::{closes, is_indicator, is_mark, is_regional, leaves_open};
+use crate::boundary::{closes, is_indicator, is_mark, is_regional, leaves_open};
 
-/// The last character of a text, whether it is half of a flag whose other half would come behind it, and whether a
-/// consonant behind it would join a conjunct.
+/// The last character of a text, whether it is half of a flag whose other half would come after it, and whether a
+/// consonant after it would join a conjunct.
 #[derive(Clone, Copy)]
 pub(crate) struct Ending {
     last: char,
@@ -40,14 +40,14 @@ impl Ending {
         }
     }
 
-    /// That of a text with another one behind it.
+    /// That of a text with another one after it.
     pub(crate) fn pass_all(self, text: &str) -> Ending
         ensures { result ≡ fold ending_with self (chars text.now) }
     {
         text.chars().fold(self, |ending, next| ending.pass(next))
     }
 
-    /// Whether a cluster ends behind the text, where no character that joins could go on with it.
+    /// Whether a cluster ends after the text, where no character that joins could go on with it.
     pub(crate) fn is_closed(self) -> bool
         ensures { result ≡ ends_cluster self }
     {

@@ -1,3 +1,5 @@
+//! A text in which clusters are found by their numbers, and scalars are replaced.
+
 ghost use Rattle.std.specs.Prelude.{◌≡◌, ◌↔◌, ◌<◌, ◌≤◌, ◌+◌, length, encode_utf8_all, string_bytes, IfOk, IfSome, IsNone, OnErr, OnOk};
 ghost use Rattle.std.specs.List.{splice as spliced};
 ghost use Rattle.std.specs.Str.{chars, IsUtf8};
@@ -51,8 +53,8 @@ impl ClusterIndex {
         self.scalars - 2
     }
 
-    /// Where the cluster `at` begins, and how many scalars the `n` clusters from there on have. None is the answer where
-    /// the text has fewer than `at + n` clusters.
+    /// Where the cluster `at` begins, and how many scalars the `n` clusters from there on have. Returns None where the
+    /// text has fewer than `at + n` clusters.
     pub fn span(&self, at: u32, n: u32) -> Option<(usize, usize)>
         ensures span { IfSome result (λ found. found ≡ span_of (clusters_of self.now) at n) }
         ensures none { IsNone result ↔ (length (clusters_of self.now) < at + n) }
@@ -66,7 +68,7 @@ impl ClusterIndex {
         Some((start - 1, end - start))
     }
 
-    /// The `n` scalars from `at` on give way to a text. After want of memory all is as before.
+    /// The `n` scalars from `at` on give way to a text. After an allocation failure all is as before.
     pub fn splice(&mut self, at: usize, n: usize, new: &str) -> Result<(), AllocError>
         requires { at + n ≤ length (chars self.old) }
         ensures ok { OnOk result (self.new ≡ encode_utf8_all (spliced (chars self.old) at (at + n) (chars new.now))) }

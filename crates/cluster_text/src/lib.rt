@@ -2,7 +2,7 @@
 #![tactic(auto)]
 
 mod balance;
-mod border;
+mod boundary;
 mod cutting;
 mod ending;
 mod index;

@@ -1,9 +1,11 @@
+//! A part of a text that ends at boundaries of clusters, with its counts.
+
 ghost use Rattle.std.specs.Prelude.{◌≡◌, true, length, string_bytes, IfOk};
 ghost use Rattle.std.specs.Str.{chars};
-ghost use Rattle.cluster_text.specs.Borders.{stands_alone};
+ghost use Rattle.cluster_text.specs.Boundaries.{stands_alone};
 ghost use Rattle.cluster_text.specs.Clusters.{clusters as clusters_of};
 
-use crate::border::is_plain;
+use crate::boundary::is_plain;
 use crate::scalars::count_scalars;
 use std::alloc::{AllocError, Global};
 use unicode_segmentation::UnicodeSegmentation;

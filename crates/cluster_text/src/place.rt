@@ -9,7 +9,7 @@ use crate::tree::Tree;
 use unicode_segmentation::UnicodeSegmentation;
 
 impl Tree {
-    /// How many scalars stand before the cluster `at`. None is the answer where there is none. Only the part in which it
+    /// How many scalars stand before the cluster `at`. Returns None where there is none. Only the part in which it
     /// stands is read.
     pub(crate) fn find_place(&self, at: usize) -> Option<usize>
         requires { scalar_count self.now < 2 ^ 64 }

@@ -3,7 +3,7 @@ ghost use Rattle.std.specs.Prelude.{◌≡◌, ◌⊎◌, ◌^◌, ◌<◌, ◌�
 ghost use Rattle.std.specs.Prelude.{string_bytes};
 ghost use Rattle.std.specs.List.{splice as spliced};
 ghost use Rattle.std.specs.Str.{chars};
-ghost use Rattle.cluster_text.specs.Borders.{is_closed, last_closes};
+ghost use Rattle.cluster_text.specs.Boundaries.{is_closed, last_closes};
 ghost use Rattle.cluster_text.specs.Parts.{IsGathered, scalar_count, whole};
 
 use crate::cutting::cut_up;
@@ -13,8 +13,8 @@ use crate::scalars::split_at_scalar;
 use crate::tree::Tree;
 use std::alloc::{AllocError, Global};
 
-/// The scalars from `at` up to `end` give way to a text. One scalar at least stays on each side, and behind the last
-/// one a cluster ends, whatever stands before it. After want of memory the parts are as before.
+/// The scalars from `at` up to `end` give way to a text. One scalar at least stays on each side, and after the last one
+/// a cluster ends, whatever stands before it. After an allocation failure the parts are as before.
 pub(crate) fn replace(
     parts: &mut Tree,
     alloc: Global,
@@ -47,7 +47,7 @@ pub(crate) fn replace(
     Ok(())
 }
 
-/// The front of a part, a text, and what stands behind the front of a part.
+/// The front of a part, a text, and what stands after the front of a part.
 fn join_ends(
     alloc: Global,
     first: &Part,
@@ -68,9 +68,9 @@ fn join_ends(
     Ok(text)
 }
 
-/// Adds the parts from an index on to a text, until a cluster ends behind it whatever follows, or no part is left. So
-/// half of a flag that came or went moves the borders of the flags behind it. The answer is the index behind the last
-/// of these parts.
+/// Adds the parts from an index on to a text, until a cluster ends after it whatever follows, or no part is left. So
+/// half of a flag that came or went moves the boundaries of the flags after it. Returns the index after the last of
+/// these parts.
 fn gather(parts: &Tree, text: &mut String, from: usize) -> Result<usize, AllocError>
     requires within { from ≤ length parts.now }
     requires few { length parts.now < 2 ^ 64 }

@@ -22,7 +22,7 @@ pub(crate) fn split_first(text: &str) -> Option<(char, &str)>
     Some((first, scalars.as_str()))
 }
 
-/// Splits a text behind its first n scalars.
+/// Splits a text after its first n scalars.
 pub(crate) fn split_at_scalar(text: &str, n: usize) -> (&str, &str)
     ensures front { result.0.now ≡ encode_utf8_all (take n (chars text.now)) }
     ensures rest { result.1.now ≡ encode_utf8_all (drop n (chars text.now)) }
@@ -31,7 +31,7 @@ pub(crate) fn split_at_scalar(text: &str, n: usize) -> (&str, &str)
     text.split_at(text.len() - rest.len())
 }
 
-/// What stands behind the first n scalars.
+/// What stands after the first n scalars.
 fn pass_scalars(text: &str, n: usize) -> &str
     ensures { SplitsAt text.now result.now n }
 {

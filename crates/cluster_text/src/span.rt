@@ -1,3 +1,5 @@
+//! Where clusters of a text begin, and how many scalars they have, counted from the front.
+
 ghost use Rattle.std.specs.Prelude.{◌≡◌, ◌↔◌, ◌<◌, ◌≤◌, ◌+◌, ◌^◌, length, drop, IfSome, IsNone};
 ghost use Rattle.std.specs.List.{concat};
 ghost use Rattle.std.specs.Str.{chars, IsUtf8};
@@ -6,8 +8,8 @@ ghost use Rattle.cluster_text.specs.Clusters.{clusters as clusters_of, span, Pas
 
 use unicode_segmentation::{Graphemes, UnicodeSegmentation};
 
-/// Where the cluster `at` begins, and how many scalars the `n` clusters from there on have. None is the answer where
-/// the text has fewer than `at + n` clusters.
+/// Where the cluster `at` begins, and how many scalars the `n` clusters from there on have. Returns None where the text
+/// has fewer than `at + n` clusters.
 pub fn cluster_span(text: &str, at: u32, n: u32) -> Option<(usize, usize)>
     ensures span { IfSome result (λ found. found ≡ span (clusters_of text.now) at n) }
     ensures none { IsNone result ↔ (length (clusters_of text.now) < at + n) }
@@ -19,7 +21,7 @@ pub fn cluster_span(text: &str, at: u32, n: u32) -> Option<(usize, usize)>
     Some((start, len))
 }
 
-/// Passes the next `n` clusters, and answers how many scalars they have.
+/// Passes the next `n` clusters, and returns how many scalars they have.
 fn pass(clusters: &mut Graphemes<'_>, n: u32) -> Option<usize>
     requires { length (chars (concat (graphemes_left clusters.old))) < 2 ^ 63 }
     ensures passed { IfSome result (Passed (graphemes_left clusters.old) (graphemes_left clusters.new) n) }

@@ -17,7 +17,7 @@ pub(crate) struct Tree {
     root: Option<Box<Node>>,
 }
 
-/// A part between those before it and those behind it.
+/// A part between those before it and those after it.
 #[cycle(tree)]
 #[derive(Drop)]
 pub(crate) struct Node {
@@ -91,7 +91,7 @@ impl Tree {
         }
     }
 
-    /// The root, between the parts before it and those behind it.
+    /// The root, between the parts before it and those after it.
     pub(crate) fn top(&self) -> Option<&Node>
         ensures some { IfSome result (λ node. self.now ≡ node.now.left ++ node.now.part ∷ node.now.right) }
         ensures none { IfNone result (self.now ≡ []) }
@@ -102,7 +102,7 @@ impl Tree {
         }
     }
 
-    /// Takes the root from between the parts before it and those behind it.
+    /// Takes the root from between the parts before it and those after it.
     pub(crate) fn open(self) -> Option<(Tree, Box<Node>, Tree)>
         ensures some { IfSome result (λ (left, node, right). self ≡ left ++ node.value.part ∷ right) }
         ensures none { IfNone result (self ≡ []) }
@@ -157,7 +157,7 @@ impl Tree {
         }
     }
 
-    /// Adds a part at the end. After want of memory all is as before.
+    /// Adds a part at the end. After an allocation failure all is as before.
     pub(crate) fn push(&mut self, alloc: Global, part: Part) -> Result<(), AllocError>
         ensures ok { OnOk result (self.new ≡ self.old ++ part ∷ []) }
         ensures err { OnErr result (self.new ≡ self.old) }

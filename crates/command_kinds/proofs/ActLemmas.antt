@@ -62,7 +62,7 @@ pub first_fails : {T : Type 0} (first later : Type 0) (found : Finding T) → fi
 first_fails first later (Refuses why) fails = fails
 first_fails first later (Does done) fails = inl fails
 
--- what came of an act is what its objects lead to, but for want of memory and for calls that failed
+-- what came of an act is what its objects lead to, but for lack of memory and for calls that failed
 abbrev pub Answers : {T : Type 0} → Basis T → Finding T → Result T Refusal → Type 0
 Answers basis found (Ok done) = found ≡ Does done
 Answers basis found (Err refusal.Outside) = basis.Failed found × (basis.Sure found → ⊥)

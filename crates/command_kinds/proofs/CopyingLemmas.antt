@@ -21,7 +21,7 @@ use Rattle.replica_core.proofs.FeedingLemmas.{takes_none_in, takes_on}
 use Rattle.command_kinds.specs.Intake.{FeedsNotAll, OneTooMany, copies_of_kept}
 use Rattle.command_kinds.proofs.IntakeLemmas.{copied-append, copied-nil}
 
--- what was kept of two lists, one behind the other
+-- what was kept of two lists, one after the other
 pub both_kept : (start mid : State) (a b : List Op) (kept one two : Option (List Op)) → mid ≡ record start { held = held_from start.hold start.most start.held a }
     → one ≡ copies_of_kept kept (kept_from start.hold start.most start.held a)
     → two ≡ copies_of_kept one (kept_from mid.hold mid.most mid.held b) → two ≡ copies_of_kept kept (kept_from start.hold start.most start.held (a ++ b))
@@ -30,7 +30,7 @@ both_kept start mid a b kept one two mid_is one_is two_is =
     ∙ copied-append kept (kept_from start.hold start.most start.held a) (kept_from start.hold start.most (held_from start.hold start.most start.held a) b)
     ∙ ap (copies_of_kept kept) (kept-append start.hold start.most start.held a b)
 
--- one that finds no place is behind others that found theirs
+-- one that finds no place is after others that found theirs
 pub one_further : (replica now : State) (done ops : List Op) (before after : Tally) → TakesInAll replica now done before after → OneTooMany now ops
     → OneTooMany replica (done ++ ops)
 one_further replica now done ops before after taken one =

@@ -91,7 +91,7 @@ module _ (replica last : Replica) (before after : SourceView) (n : ℕ) (run : S
   pub has_made : ReportsOutcome (made_outcome last run.2.ops) (note.Made n)
   has_made = record { line = ap made_line (sym run.2.count); status = refl }
 
--- a script of which a front was read was left, with more behind it
+-- a script of which a front was read was left, with more after it
 pub read_more : (front : List ℕ) (before after : Option (List ℕ)) → before ≡ prepend_known front after → (more : List ℕ) × IfSome before (λ b. b ≡ front ++ more)
 read_more front before None is = ([], subst (λ (l : Option (List ℕ)). IfSome l (λ b. b ≡ front ++ [])) (sym is) tt)
 read_more front before (Some left) is = (left, subst (λ (l : Option (List ℕ)). IfSome l (λ b. b ≡ front ++ left)) (sym is) refl)

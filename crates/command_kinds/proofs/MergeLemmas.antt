@@ -31,7 +31,7 @@ use Rattle.command_kinds.specs.Giving.{GivesTo}
 use Rattle.command_kinds.specs.declared.counts.Note.{Note}
 use Rattle.command_kinds.specs.declared.counts.Note.TheVariants as note
 
--- Operations of which one finds no place, and what stands behind them
+-- Operations of which one finds no place, and what stands after them
 
 -- one is one too many then
 pub one_too_many : (replica : State) (ops more : List Op) → OneTooMany replica ops → IsOneTooMany replica (ops ++ more)

@@ -1,4 +1,4 @@
--- What a file holds once a batch was appended to it behind a load, or while it was.
+-- What a file holds once a batch was appended to it after a load, or while it was.
 use Rattle.std.proofs.Common.{◌≡◌, ◌≢◌, inl, inr, ℕ, ◌+◌, List, [], ◌∷◌, ◌++◌, length, refl, ap, sym, subst, ◌∙◌, arith, length-append}
 use Rattle.std.specs.Prelude.{Option, Some, None, IfSome}
 use Rattle.std.proofs.lemmas.List.{append-nil}
@@ -13,7 +13,7 @@ use Rattle.origin_model.specs.frames.Framings.{frames}
 use Rattle.origin_model.specs.taking.Taking.{MeetsNoLimit, held, nothing_held}
 use Rattle.origin_model.proofs.SharedLemmas.{held-append, places-append}
 use Rattle.origin_model.specs.edits.State.{State as Replica}
-use Rattle.replica_file.specs.Append.{HasBatch, HoldsEither, behind_gate, content_with_ops}
+use Rattle.replica_file.specs.Append.{HasBatch, HoldsEither, after_gate, content_with_ops}
 use Rattle.replica_file.specs.declared.load_file.End.{End}
 use Rattle.replica_file.specs.Ends.{Means}
 use Rattle.replica_file.specs.Gates.{LastsForCalls, gate_opened}
@@ -155,14 +155,14 @@ still_loads replica end outcome h new loads suffices nothing_held is =
     )
 
 -- where nothing is specified at first, nothing is specified then
-untold : (end : End) (ops : List Op) (mid new : Option History) → mid ≡ None → (ops ≡ [] → new ≡ mid) → (ops ≢ [] → new ≡ gate_opened end.at (behind_gate ops) mid) → new ≡ None
+untold : (end : End) (ops : List Op) (mid new : Option History) → mid ≡ None → (ops ≡ [] → new ≡ mid) → (ops ≢ [] → new ≡ gate_opened end.at (after_gate ops) mid) → new ≡ None
 untold end [] mid new is none calls = none refl ∙ is
-untold end (op ∷ ops) mid new is none calls = calls (λ e. cc e) ∙ ap (gate_opened end.at (behind_gate (op ∷ ops))) is
+untold end (op ∷ ops) mid new is none calls = calls (λ e. cc e) ∙ ap (gate_opened end.at (after_gate (op ∷ ops))) is
 
 -- a later load comes to the outcome's state
 pub later_so : (replica : Replica) (end : End) (outcome : Outcome) (old mid new : Option History) → IfSome old (λ h. Loads MOST_OPERATIONS h.last.seen replica end)
     → Suffices replica outcome
-    → mid ≡ past_after_step durable old → (outcome.saved ≡ [] → new ≡ mid) → (outcome.saved ≢ [] → new ≡ gate_opened end.at (behind_gate outcome.saved) mid)
+    → mid ≡ past_after_step durable old → (outcome.saved ≡ [] → new ≡ mid) → (outcome.saved ≢ [] → new ≡ gate_opened end.at (after_gate outcome.saved) mid)
     → (outcome.saved ≢ [] → Batched outcome.saved end mid new)
     → LoadsAs (record replica { held = outcome.held }) new
 later_so replica end outcome None mid new loads suffices synced none calls appended =
@@ -174,16 +174,16 @@ later_so replica end outcome (Some h) mid new loads suffices synced none calls a
     by_ops (op ∷ ops) is = batch_loads h.last.seen replica end outcome loads suffices new
         (subst (λ m. Batched outcome.saved end m new) synced (appended (λ e. let not = is ∙ e in cc not)) loads.content loads.holds)
 
--- a slot's bytes behind its gate
-gate_long : (ops : List Op) → length (behind_gate ops) ≡ length (frames ops) + 5
+-- a slot's bytes after its gate
+gate_long : (ops : List Op) → length (after_gate ops) ≡ length (frames ops) + 5
 gate_long ops = omega (arith, length-append (frames ops) (0 ∷ []))
 
 -- what needs the room that is left behind the sync comes
 pub with_room : (P : Type 0) (ops : List Op) (a b : DiskView) → ops ≢ [] → b.room ≡ room_after_write 0 a.room → HasDiskRoom (room_to_save ops) a
-    → IfSome b.room (λ room. LastsForCalls (behind_gate ops) room → P) → P
+    → IfSome b.room (λ room. LastsForCalls (after_gate ops) room → P) → P
 with_room P [] a b some room_is has if = absurd (some refl)
 with_room P (op ∷ ops) a b some room_is has if =
-    let now = subst (λ o. IfSome o (λ (room : RoomView). LastsForCalls (behind_gate (op ∷ ops)) room → P)) (room_is ∙ ap (room_after_write 0) has.is) if in
+    let now = subst (λ o. IfSome o (λ (room : RoomView). LastsForCalls (after_gate (op ∷ ops)) room → P)) (room_is ∙ ap (room_after_write 0) has.is) if in
     now (record { bytes_fit = omega (arith, has.bytes_fit, gate_long (op ∷ ops)); calls_fit = omega (arith, has.calls_fit) })
 
 -- room to save is room for a call
@@ -193,7 +193,7 @@ some_room (op ∷ ops) disk has = record { room = has.room; is = has.is; bytes_f
 
 -- no fault is counted where there was room to save
 pub no_fault_so : (ops : List Op) (a b c : DiskView) → DiskCountsNoFault 1 (change a b) → b.room ≡ room_after_write 0 a.room → (ops ≡ [] → c ≡ b)
-    → IfSome b.room (λ room. LastsForCalls (behind_gate ops) room → c.faults ≡ b.faults) → DiskCountsNoFault (room_to_save ops) (change a c)
+    → IfSome b.room (λ room. LastsForCalls (after_gate ops) room → c.faults ≡ b.faults) → DiskCountsNoFault (room_to_save ops) (change a c)
 no_fault_so [] a b c counts_no_fault room_is none without_fault has = ap (λ (d : DiskView). d.faults) (none refl) ∙ counts_no_fault has
 no_fault_so (op ∷ ops) a b c counts_no_fault room_is none without_fault has =
     with_room (c.faults ≡ b.faults) (op ∷ ops) a b (λ e. cc e) room_is has without_fault ∙ counts_no_fault (some_room (op ∷ ops) a has)

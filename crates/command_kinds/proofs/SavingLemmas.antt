@@ -8,7 +8,7 @@ use Rattle.outer_ports.specs.disk.States.{durable}
 use Rattle.origin_model.specs.edits.State.{State as Replica}
 use Rattle.replica_file.proofs.HonestLemmas.{settled_honest}
 use Rattle.replica_file.proofs.LoadLemmas.{loaded_synced}
-use Rattle.replica_file.specs.Append.{AppendMeets, behind_gate}
+use Rattle.replica_file.specs.Append.{AppendMeets, after_gate}
 use Rattle.replica_file.specs.declared.appending.AppendFault.TheVariants as append_fault
 use Rattle.replica_file.specs.Gates.{gate_opened}
 use Rattle.replica_file.specs.declared.load_file.End.{End}
@@ -49,7 +49,7 @@ module _ (ops_source : OpsSource) (a b c : DiskView) (replica : Replica) (end : 
     later = later_so replica end outcome a.past b.past c.past loaded.cause suffices synced (λ is. same_past (saves.none is).1) (λ some. (saves.appended some).calls)
         (λ some. (saves.appended some).has);
     none = λ is. same_past (saves.none is).1 ∙ synced;
-    batch = λ some. (saves.appended some).calls ∙ ap (gate_opened end.at (behind_gate outcome.saved)) synced;
+    batch = λ some. (saves.appended some).calls ∙ ap (gate_opened end.at (after_gate outcome.saved)) synced;
     counts_no_fault = no_fault_so outcome.saved a b c keeps.counts_no_fault room (λ is. (saves.none is).1) saves.faults.counts_no_fault;
   }
 

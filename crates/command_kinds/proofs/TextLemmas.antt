@@ -33,7 +33,7 @@ pub reported_blameless : (why : Refusal) (notes : Change OutView) → Reported n
 reported_blameless why notes reported tells not =
     elim (reported.exact tells) [ inl same ↦ inl same | inr faulted ↦ inr (record { why = why; end_is = refl; front = reported.front; faulted = faulted }) ]
 
--- a line did not go out whole, and behind it another did or did not
+-- a line did not go out whole, and after it another did or did not
 pub fronts_joined : (old mid new : OutView) (first second : List ℕ) → TookFront old mid first → TookFront mid new second → TookFronts old new first second
 fronts_joined old mid new first second a b = record {
   count = a.count;

@@ -21,7 +21,7 @@ counts_line tally waiting =
 abbrev pub cursor_line : ℕ → List ℕ
 cursor_line cursor = codes "cursor " ++ decimal cursor ++ 10 ∷ []
 
--- the counts, and behind them where a relay's log ended, if they came from one
+-- the counts, and after them where a relay's log ended, if they came from one
 abbrev pub counts_text : Tally → ℕ → Option ℕ → List ℕ
 counts_text tally waiting None = counts_line tally waiting
 counts_text tally waiting (Some cursor) = counts_line tally waiting ++ cursor_line cursor

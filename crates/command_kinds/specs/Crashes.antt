@@ -13,7 +13,7 @@ use Rattle.command_kinds.specs.declared.status.Status.TheVariants.{Done, Partial
 abbrev pub IsFinished : Status → Type 0
 IsFinished end = (end ≡ Done) ⊎ (end ≡ Partial)
 
--- whatever a crash leaves, it has this header, and one list of operations or this with another behind it; a read gives such a one too
+-- whatever a crash leaves, it has this header, and one list of operations or this with another after it; a read gives such a one too
 pub record IsSafe (header : Header) (ops more : List Op) (s : DiskState) : Type 0 where
   pub honest : IsHonest s
   pub leaves : (image : List ℕ) → IsCrashImage s image → HasOpsOr header ops more image

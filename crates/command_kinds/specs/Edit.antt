@@ -36,7 +36,7 @@ pub record HasFaultyLine (replica : Replica) (script : List ℕ) (why : Refusal)
   pub short : length script ≤ LONGEST_SCRIPT
   pub fault : ScriptFault
   pub why_is : why ≡ script_refusal fault
-  -- want of memory is no line's fault
+  -- an allocation failure is no line's fault
   pub no_want : fault ≢ script_fault.NoMemory
   pub last : Replica
   pub stops : StopsAtLine replica last script fault

@@ -75,11 +75,11 @@ pub record HasOps (header : Header) (ops : List Op) (bytes : List ℕ) : Type 0 
   pub header_is : new_file_header content ≡ header
   pub ops_are : content.ops ≡ ops
 
--- the operations, or these with more behind them
+-- the operations, or these with more after them
 abbrev pub HasOpsOr : Header → (ops more : List Op) → List ℕ → Type 0
 HasOpsOr header ops more bytes = HasOps header ops bytes ⊎ HasOps header (ops ++ more) bytes
 
--- Once the file is loaded, which settles it, a crash leaves the content's operations, or these with all of those behind
+-- Once the file is loaded, which settles it, a crash leaves the content's operations, or these with all of those after
 -- them; and a read gives what a crash may leave.
 pub record GainsAllOrNone (ops : List Op) (h : History) (new : Option History) : Type 0 where
   pub content : Content
@@ -88,7 +88,7 @@ pub record GainsAllOrNone (ops : List Op) (h : History) (new : Option History) :
   pub gains : LeavesOnlyTo (history_after_step durable h) new (HasOpsOr (new_file_header content) content.ops ops)
   pub honest : IfSome new (λ k. IsHonest k.last)
 
--- The operations were saved behind those of the file: a read gives all of them, and a crash leaves nothing else.
+-- The operations were saved after those of the file: a read gives all of them, and a crash leaves nothing else.
 pub record AreSavedOps (ops : List Op) (h : History) (new : Option History) : Type 0 where
   pub moments : GainsAllOrNone ops h new
   pub has : IfSome new (λ k. HasOps (new_file_header moments.content) (moments.content.ops ++ ops) k.last.seen)

@@ -1,4 +1,4 @@
--- What the objects of a command, where they are specified, lead it to, and the status that follows.
+-- The finding of a command: a refusal, or the work that it does, as its file and its words decide; and the exit status.
 use Rattle.std.specs.Prelude.{◌≡◌, ◌⊎◌}
 use Rattle.command_kinds.specs.declared.refusal.Refusal.{Refusal}
 use Rattle.command_kinds.specs.declared.status.Status.{Status}

@@ -32,7 +32,7 @@ note_status (note.Counted counts) = status_by counts.tally counts.waiting
 note_status (note.Made count) = status.Done
 note_status (note.Revised count sections) = status.Done
 
--- what is to be saved: copies of what was kept, or the operations of a script, which were accepted behind the rest, or
+-- what is to be saved: copies of what was kept, or the operations of a script, which were accepted after the rest, or
 -- those of a draft, which are the last so many
 abbrev pub to_save : Note → (before : ℕ) → (after : Replica) → (kept : Option (List Op)) → List Op
 to_save (note.Counted counts) before after kept = ops_in kept

@@ -21,7 +21,7 @@ use Rattle.command_kinds.specs.Input.{SourceComes, StreamRefuses}
 use Rattle.command_kinds.specs.declared.refusal.Refusal.{Refusal}
 use Rattle.command_kinds.specs.declared.refusal.Refusal.TheVariants.{BadFrame, CutShort, TooLong, TooMany, Outside, NoMemory}
 
--- copies of the operations that were kept, and these behind them: none, where they are forgotten
+-- copies of the operations that were kept, and these after them: none, where they are forgotten
 abbrev pub copies_of_kept : Option (List Op) → List Op → Option (List Op)
 copies_of_kept kept ops = option_map (λ before. before ++ ops) kept
 
@@ -36,7 +36,7 @@ FeedsNot (feed_fault.TooMany limit) replica op =
     (limit ≡ replica.most) × (answer replica.hold replica.most replica.held op ≡ AnswersTooMany)
 FeedsNot feed_fault.NoMemory replica op = Unit {0}
 
--- of the operations, one found no place behind those before it
+-- of the operations, one found no place after those before it
 pub record OneTooMany (replica : State) (ops : List Op) : Type 0 where
   pub front : List Op
   pub op : Op
@@ -103,7 +103,7 @@ pub record TakesInStream (start : State) (old new : SourceView) (replica : State
   pub counts_are : counts ≡ tally_from start.hold start.most start.held ops no_counts
   pub kept_are : kept_after ≡ copies_of_kept kept (kept_from start.hold start.most start.held ops)
 
--- why a stream was not taken in: a call failed, or memory was wanting, or it is refused
+-- why a stream was not taken in: a call failed, or memory ran out, or it is refused
 abbrev pub IntakeStopsFor : Refusal → State → SourceView → Type 0
 IntakeStopsFor Outside start old = Unit {0}
 IntakeStopsFor NoMemory start old = Unit {0}

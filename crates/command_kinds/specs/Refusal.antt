@@ -35,7 +35,7 @@ use Rattle.command_kinds.specs.declared.version_name.VersionName.{VersionName}
 use Rattle.version_views.specs.declared.limits.TheConstants.{LONGEST_NAME}
 use Rattle.command_kinds.specs.declared.status.Status.TheVariants as status
 
--- what is reported of a refusal: the status that it answers, and the words of its line with what stands behind them
+-- what is reported of a refusal: the status that it answers, and the words of its line with what stands after them
 pub record Row : Type 0 where
   pub status : Status
   pub words : List ℕ
@@ -45,11 +45,11 @@ pub record Row : Type 0 where
 abbrev row : Status → List ℕ → Detail → Row
 row status words detail = record { status = status; words = words; detail = detail }
 
--- the name that is kept, and how a name is kept: with zeros behind it
+-- the name that is kept, and how a name is kept: with zeros after it
 abbrev pub name_bytes : VersionName → List ℕ
 name_bytes kept = take kept.length kept.bytes
 
--- a version's name as it is kept: with zeros behind it, and its length
+-- a version's name as it is kept: with zeros after it, and its length
 abbrev pub kept_name : List ℕ → VersionName
 kept_name name = record { bytes = name ++ drop (length name) (replicate LONGEST_NAME 0); length = length name }
 
@@ -96,18 +96,18 @@ status_of refusal = (row_of refusal).status
 abbrev pub words_of : Refusal → List ℕ
 words_of refusal = (row_of refusal).words
 
--- what a refusal says behind its words
+-- what a refusal says after its words
 abbrev pub detail_of : Refusal → Detail
 detail_of refusal = (row_of refusal).detail
 
--- what a refusal says behind its words, as it is written
+-- what a refusal says after its words, as it is written
 abbrev pub detail_text : Detail → List ℕ
 detail_text Nothing = []
 detail_text (Number n) = decimal n
 detail_text (Times n) = decimal n ++ codes " times"
 detail_text (Name name) = name_bytes name
 
--- the words, the number or the name where there is one, with `times` behind a number of places, LF
+-- the words, the number or the name where there is one, with `times` after a number of places, LF
 abbrev pub refusal_line : Refusal → List ℕ
 refusal_line refusal = words_of refusal ++ detail_text (detail_of refusal) ++ 10 ∷ []
 
@@ -185,7 +185,7 @@ pub record Reported (old new : OutView) (line : List ℕ) : Type 0 where
   -- an object that is specified counts a fault only where the line is not whole
   pub exact : OutIsSpecified old → (new.faults ≡ old.faults) ⊎ Faulted old.faults new.faults
 
--- a front of one line went out, behind it a front of another, and nothing else
+-- a front of one line went out, after it a front of another, and nothing else
 pub record TookFronts (old new : OutView) (first second : List ℕ) : Type 0 where
   pub count : ℕ
   pub within : count ≤ length first

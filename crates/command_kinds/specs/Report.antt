@@ -45,7 +45,7 @@ pub record RefusesHeld (tells : ReportText) (file : Change DiskView) (why : Refu
   pub found : TextFound tells file.old (Refuses why)
   pub synced : FileRefuses file.old why ⊎ (file.new.past ≡ past_after_step durable file.old.past)
 
--- what came of a report: the text went out, or a call failed, or memory was wanting, or the file or what it holds is refused
+-- what came of a report: the text went out, or a call failed, or memory ran out, or the file or what it holds is refused
 abbrev pub ReportComes : (tells : ReportText) → Change DiskView → (output : Change OutView) → Result (List ℕ) Refusal → Type 0
 ReportComes tells file output (Ok bytes) = WroteHeld tells file bytes (Took output.old output.new bytes)
 ReportComes tells file output (Err refusal.Outside) =

@@ -10,7 +10,7 @@ use Rattle.outer_ports.specs.disk.Disks.{DiskView}
 use Rattle.outer_ports.specs.disk.Moments.{past_after_step}
 use Rattle.outer_ports.specs.disk.States.{durable}
 use Rattle.origin_model.specs.edits.State.{State as Replica}
-use Rattle.replica_file.specs.Append.{IsTooLong, behind_gate}
+use Rattle.replica_file.specs.Append.{IsTooLong, after_gate}
 use Rattle.replica_file.specs.Gates.{gate_opened}
 use Rattle.replica_file.specs.declared.load_file.End.{End}
 use Rattle.command_kinds.specs.Crashes.{IsFinished, NeverTorn}
@@ -81,7 +81,7 @@ pub record IsDone (ops_source : OpsSource) (file : Change DiskView) (outcome : O
   pub saves : IfSome file.old.past (λ h. AreSavedOps outcome.saved h file.new.past)
   -- the file was settled, and then one batch was appended where its meaning ends, or none
   pub none : outcome.saved ≡ [] → file.new.past ≡ past_after_step durable file.old.past
-  pub batch : outcome.saved ≢ [] → file.new.past ≡ gate_opened end.at (behind_gate outcome.saved) (past_after_step durable file.old.past)
+  pub batch : outcome.saved ≢ [] → file.new.past ≡ gate_opened end.at (after_gate outcome.saved) (past_after_step durable file.old.past)
   pub later : (last : End) × FileHolds file.new (record replica { held = outcome.held }) last
   pub counts_no_fault : DiskCountsNoFault (room_to_save outcome.saved) file
 
@@ -97,7 +97,7 @@ pub record SaveFailed (ops_source : OpsSource) (file : Change DiskView) : Type 0
   pub faulted : Faulted file.old.faults file.new.faults
   pub no_room : HasDiskRoom (room_to_save outcome.saved) file.old → ⊥
 
--- a call on the source failed, behind the loading of the file, which settles it
+-- a call on the source failed, after the loading of the file, which settles it
 pub record GivingFailed (ops_source : OpsSource) (file : Change DiskView) : Type 0 where
   pub replica : Replica
   pub end : End
@@ -143,7 +143,7 @@ saving_basis ops_source file = record {
   Sure = λ found. ops_source.Sure × HasDiskRoom (room_needed found) file.old;
 }
 
--- a file that is the cause of a refusal decides it alone, whatever the source does, which comes behind it
+-- a file that is the cause of a refusal decides it alone, whatever the source does, which comes after it
 abbrev pub FileIsRefused : Change DiskView → Status → Type 0
 FileIsRefused file end =
     IsSpecified file.old → (why : Refusal) → FileRefuses file.old why

@@ -82,7 +82,7 @@ show_basis hold old new = record {
   Sure = λ found. (old.input.sure ≡ true) × HasRoom (length (brought_to_output hold found)) old.output;
 }
 
--- the input decides the status of `show`, but for want of memory and faults
+-- the input decides the status of `show`, but for lack of memory and faults
 abbrev pub ShowIsDecided : (hold : ℕ) → Streams → Streams → Status → Type 0
 ShowIsDecided hold old new end = IsDecidedBy (showing hold old new) (show_basis hold old new) (change old.notes new.notes) end
 

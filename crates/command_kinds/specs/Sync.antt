@@ -50,7 +50,7 @@ reply cursor home wire = record {
 }
 
 -- A front of what is held was said, to nobody but the port, which was dialled once and before the first byte was said; all
--- of it, on that connection, where all was done, and then the reply was heard there and nothing behind it. A sure wire that
+-- of it, on that connection, where all was done, and then the reply was heard there and nothing after it. A sure wire that
 -- has room for it counts no fault.
 pub record Speaks (port cursor : ℕ) (held : Held) (wire : Change WireView) (done : Type 0) : Type 0 where
   pub front : TookFront (out_of wire.old) (out_of wire.new) (request_for cursor held)

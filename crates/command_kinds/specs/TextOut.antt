@@ -15,14 +15,14 @@ use Rattle.origin_model.specs.order.Printed.{manuscript}
 use Rattle.origin_model.specs.taking.Taking.{Held}
 use Rattle.origin_model.specs.declared.taking.Tally.{Tally}
 
--- what came of a text: it went out, or the output failed, or memory was wanting, and nothing went out
+-- what came of a text: it went out, or the output failed, or memory ran out, and nothing went out
 abbrev pub TextComes : (bytes : List ℕ) → Change OutView → Result (Unit {0}) Refusal → Type 0
 TextComes bytes output (Ok done) = Took output.old output.new bytes
 TextComes bytes output (Err refusal.Outside) = WroteFront bytes output
 TextComes bytes output (Err refusal.NoMemory) = output.new ≡ output.old
 TextComes bytes output (Err _) = ⊥
 
--- the call that writes a text: a sure output that has room for it counts no fault, and one that is specified none but where it failed
+-- the call that writes a text: a sure output that has room for it counts no fault, and a specified one none unless the call failed
 pub record GoesOut (bytes : List ℕ) (output : Change OutView) (result : Result (Unit {0}) Refusal) : Type 0 where
   pub comes : TextComes bytes output result
   pub counts_no_fault : CountsNoFault (length bytes) output.old output.new
@@ -44,7 +44,7 @@ printing state counts output = record {
 abbrev pub WritesOut : (bytes : List ℕ) → (output notes : Change OutView) → Status → Type 0
 WritesOut bytes output notes end = Performs (writing bytes output) notes end
 
--- there is no text, and why: what a command reports of is not there, or memory was wanting
+-- there is no text, and why: what a command reports of is not there, or memory ran out
 abbrev pub HasNoText : (tells : Finding (List ℕ) → Type 0) → Refusal → Type 0
 HasNoText tells refusal.NoMemory = Unit {0}
 HasNoText tells why = (status_of why ≡ status.BadInput) × tells (Refuses why)

@@ -86,7 +86,7 @@ pub fn save_given<F, T: Gives<F>, H: Disk, N: Sink>(
     }
 }
 
-/// Loads the home file, and saves what was given to its replica. The answer is what is to be noted.
+/// Loads the home file, and saves what was given to its replica. Returns what is to be noted.
 fn load_and_save<F, T: Gives<F>, H: Disk>(
     alloc: Global,
     ops_source: &T,

@@ -1,4 +1,4 @@
-//! The storage behind `Kept`: nothing, copies in a list of runs, or a list that was given.
+//! The storage after `Kept`: nothing, copies in a list of runs, or a list that was given.
 ghost use Rattle.std.specs.Prelude.{◌≡◌, IfOk};
 
 use fugue_ids::{NoMemory, Op};
@@ -15,7 +15,7 @@ pub(crate) enum KeptOps {
     Given(Vec<Op>),
 }
 
-/// Copies of the operations, behind which more can go.
+/// Copies of the operations, after which more can go.
 pub(crate) fn runs_of(ops: &Vec<Op>) -> Result<OpRuns, NoMemory>
     ensures { IfOk result (λ runs. runs ≡ ops.now.items) }
 {

@@ -33,7 +33,7 @@ pub enum Refusal {
     OutOfRangeAtLine(u32),
     /// A file is no replica's.
     NotReplica,
-    /// The open slot of this number has no batch, or no byte stands behind it.
+    /// The open slot of this number has no batch, or no byte stands after it.
     BadBatch(u32),
     /// A file that is to be made has bytes already.
     NotEmpty,
@@ -83,17 +83,17 @@ pub enum Refusal {
     NoMemory,
 }
 
-/// What stands behind the words of a refusal's line.
+/// What stands after the words of a refusal's line.
 #[derive(Clone, Copy)]
 enum Detail {
     Nothing,
     Number(u64),
-    /// A number with `times` behind it.
+    /// A number with `times` after it.
     Times(u64),
     Name(VersionName),
 }
 
-/// The status that a refusal answers, the words of its line, and what stands behind them.
+/// The status that a refusal answers, the words of its line, and what stands after them.
 #[derive(Clone, Copy)]
 struct Row(Status, &'static str, Detail);
 

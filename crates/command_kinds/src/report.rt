@@ -24,7 +24,7 @@ pub trait Report {
     /// The text that it is, or why there is none.
     ghost Tells: { Self → AnyReplica → Finding (List ℕ) → Type 0 };
 
-    /// Writes the text. Where there is none, or memory is wanting, nothing goes out.
+    /// Writes the text. Where there is none, or memory runs out, nothing goes out.
     fn write<O: Sink>(&self, alloc: Global, replica: &Replica, output: &mut O) -> ReportResult
         ensures { ReportGoesOut (Tells self.now replica.now)
             (change (O.seen output.old) (O.seen output.new)) result };

@@ -26,8 +26,8 @@ impl Report for Frames {
     fn laws(&self) {}
 }
 
-/// The frames of all that a replica holds. They are made before any of them goes out, so that want of memory leaves the
-/// output as it was.
+/// The frames of all that a replica holds. They are made before any of them goes out, so that an allocation failure
+/// leaves the output as it was.
 fn frames_of(alloc: Global, replica: &Replica) -> Result<Vec<u8>, NoMemory>
     ensures { IfOk result (λ frames. frames.items ≡ frames_held replica.now) }
 {

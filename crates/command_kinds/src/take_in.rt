@@ -25,7 +25,7 @@ struct Intake {
 }
 
 impl Intake {
-    /// Takes in the next operations. The answer is whether there were some.
+    /// Takes in the next operations. Returns whether there were some.
     fn step<S: Source>(
         &mut self,
         replica: &mut Replica,

@@ -4,7 +4,7 @@ ghost use Rattle.command_kinds.specs.Refusal.{kept_name, name_bytes};
 
 use version_views::LONGEST_NAME;
 
-/// The name of a version as a refusal keeps it, so that it is copied: at most 120 bytes, and zeros behind them.
+/// The name of a version as a refusal keeps it, so that it is copied: at most 120 bytes, and zeros after them.
 #[derive(Clone, Copy)]
 pub struct VersionName {
     bytes: [u8; LONGEST_NAME],
@@ -12,7 +12,7 @@ pub struct VersionName {
 }
 
 impl VersionName {
-    /// None is the answer for more than 120 bytes.
+    /// Returns None for more than 120 bytes.
     pub fn read(name: &str) -> Option<VersionName>
         ensures none { IsNone result ↔ (LONGEST_NAME < length name.now) }
         ensures some { IfSome result (λ kept. kept ≡ kept_name name.now) }

@@ -186,8 +186,8 @@ fn is_cut_off(notes: &[u8], line: &[u8]) -> bool {
     }
 }
 
-/// Runs on sure objects: the output takes so many bytes, and the notes 256. The answer is the status, and whether the
-/// text was written.
+/// Runs on sure objects: the output takes so many bytes, and the notes 256. Returns the status, and whether the text
+/// was written.
 fn see_surely(
     rt: &(impl Abort + AllocGlobal),
     line: &str,

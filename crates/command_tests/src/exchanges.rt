@@ -124,7 +124,7 @@ fn sessions_are_served_as_far_as_they_may_be(rt: HostRuntime) {
     }
 }
 
-/// A session that brings both frames is gone behind each number of bytes: it is answered where it ended, and what came
+/// A session that brings both frames is gone after each number of bytes: it is answered where it ended, and what came
 /// whole stays.
 #[test]
 fn a_session_may_be_cut_at_each_byte(rt: HostRuntime) {

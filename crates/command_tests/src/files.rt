@@ -31,7 +31,7 @@ fn text(counter: u32, left: Option<ElementId>, right: Option<ElementId>, ch: cha
     }
 }
 
-/// The operations of `SAVED`, and so many letters behind them.
+/// The operations of `SAVED`, and so many letters after them.
 fn operations(rt: &(impl Abort + AllocGlobal), letters: u32) -> Vec<Op> {
     let section = Op::Section {
         id: id(0),
@@ -80,7 +80,7 @@ fn counted<H: Disk>(alloc: Global, disk: &mut H, most: u32) -> Result<(usize, En
     }
 }
 
-/// Loads, and appends the operations. The answer is where the file's meaning ends then.
+/// Loads, and appends the operations. Returns where the file's meaning ends then.
 fn save<H: Disk>(alloc: Global, disk: &mut H, ops: &[Op]) -> Option<End> {
     let (_count, end) = counted(alloc, disk, MOST_OPERATIONS).ok()?;
     append(alloc, disk, end, OpSlice::of(ops)).ok()
@@ -208,12 +208,12 @@ fn a_file_of_version_1_is_carried_over(rt: HostRuntime) {
     drop(ops);
 }
 
-/// A batch with the run of D and E, behind C, and the closed gate behind it.
+/// A batch with the run of D and E, after C, and the closed gate after it.
 const CARRIED_OVER: &[u8] = b"\x01\x20\0\0\x2b\
 \x04\0\0\0\x01\0\0\0\x04\0\0\0\x01\0\0\0\0\x01\0\0\0\x01\0\0\0\x03\x01\0\0\0\x01\0\0\0\x02\0\x02\0\0D\0\0E\
 \0";
 
-/// The crashes behind which a file is looked at.
+/// The crashes after which a file is looked at.
 pub(crate) const PICKS: &[Pick] = &[
     Pick::Old,
     Pick::New,
@@ -223,7 +223,7 @@ pub(crate) const PICKS: &[Pick] = &[
     Pick::Fill(255),
 ];
 
-/// A save: the file, how many of the operations follow behind those that it has, and what is printed before and after.
+/// A save: the file, how many of the operations follow after those that it has, and what is printed before and after.
 #[derive(Clone, Copy)]
 struct Saving {
     file: &'static [u8],

@@ -16,22 +16,22 @@ pub(crate) const A: &[u8] =
 pub(crate) const D: &[u8] =
     b"\x02\0\0\0\x02\0\0\0\0\0\0\0\x09\0\0\0\0\0\x01\0\0\0\x01\0\0\0\0\0\0D";
 
-/// The letter X, (3,0), behind (1,1), before (1,0).
+/// The letter X, (3,0), after (1,1), before (1,0).
 pub(crate) const X: &[u8] =
     b"\x02\0\0\0\x03\0\0\0\0\0\0\0\x09\0\0\0\0\x01\0\0\0\x01\0\0\0\x01\x01\0\0\0\x01\0\0\0\0\0\0X";
 
-/// The letter Y, (2,1), behind (1,1), before (2,0).
+/// The letter Y, (2,1), after (1,1), before (2,0).
 pub(crate) const Y: &[u8] =
     b"\x02\0\0\0\x02\0\0\0\x01\0\0\0\x09\0\0\0\0\x01\0\0\0\x01\0\0\0\x01\x01\0\0\0\x02\0\0\0\0\0\0Y";
 
 /// The letter a, (1,0).
 pub(crate) const LOWER_A: &[u8] = b"\x02\0\0\0\x01\0\0\0\0\0\0\0\x09\0\0\0\0\0\0\0\0a";
 
-/// The letter b, (1,1), behind (1,0).
+/// The letter b, (1,1), after (1,0).
 pub(crate) const LOWER_B: &[u8] =
     b"\x02\0\0\0\x01\0\0\0\x01\0\0\0\x09\0\0\0\0\x01\0\0\0\x01\0\0\0\0\0\0\0b";
 
-/// The letter c, (2,0), behind (1,0).
+/// The letter c, (2,0), after (1,0).
 pub(crate) const BEHIND_A: &[u8] =
     b"\x02\0\0\0\x02\0\0\0\0\0\0\0\x09\0\0\0\0\x01\0\0\0\x01\0\0\0\0\0\0\0c";
 
@@ -69,7 +69,7 @@ pub(crate) const REPLY: &[u8] = &[
     0, 0, 0, 1, 84, 0x55, 0, 0, 0, 2,
 ];
 
-/// The frames, one behind the other.
+/// The frames, one after the other.
 pub(crate) fn stream(rt: &(impl Abort + AllocGlobal), frames: &[&[u8]]) -> Vec<u8> {
     let mut bytes = Vec::new(rt.alloc());
     for frame in frames {

@@ -17,7 +17,7 @@ type Row = (
     &'static str,
 );
 
-/// The lines before a faulty one stand, and those behind it are not run. Of a script that cannot be read none is.
+/// The lines before a faulty one stand, and those after it are not run. Of a script that cannot be read none is.
 const FAULTS: &[Row] = &[
     ("add 1 T\nput 1 0 ab\n", &[], Ok(3), "# T\nab\n"),
     (

@@ -15,7 +15,7 @@ use Rattle.origin_model.proofs.edits.MadeLemmas.{extended-append}
 use Rattle.catalogue_notes.specs.declared.moving.MoveFault.{MoveFault}
 use Rattle.catalogue_notes.specs.declared.moving.MoveFault.TheVariants as moving
 use Rattle.catalogue_notes.specs.Moving.{IsMoveMade, IsRetitleMade, RefusesFor, move_by, move_refusal, retitle_by, retitle_refusal}
-use Rattle.draft_plan.specs.Changes.{AreAllowed, PlanChange, MakesChanges, Edit, IsRefused, Move, Retitle, Stops, StopsAt, all_made, replica_behind, change_refusal, made_of}
+use Rattle.draft_plan.specs.Changes.{AreAllowed, PlanChange, MakesChanges, Edit, IsRefused, Move, Retitle, Stops, StopsAt, all_made, replica_after, change_refusal, made_of}
 use Rattle.draft_plan.specs.declared.fault.ReviseFault.{ReviseFault}
 use Rattle.draft_plan.specs.declared.fault.ReviseFault.TheVariants as fault
 use Rattle.origin_model.proofs.edits.AllowedLemmas.{allowed}
@@ -33,20 +33,20 @@ gains_join old mid new ops more first next = record {
 pub gains_none : (s : State) → Gains s s []
 gains_none s = record { accepted_are = sym (append-nil (accepted s.held.history)); others = refl }
 
--- the operations of changes, and of others on the replica behind them
+-- the operations of changes, and of others on the replica after them
 all_made-append : (s : State) (a b : List PlanChange) → all_made s (a ++ b) ≡ all_made s a ++ all_made (with_ops s (all_made s a)) b
 all_made-append s [] b = refl
 all_made-append s (c ∷ cs) b =
     let ops : List Op = made_of s c in
-    let more : List Op = all_made (replica_behind s c) cs in
-    ap (λ l. ops ++ l) (all_made-append (replica_behind s c) cs b)
-    ∙ sym (append_assoc ops more (all_made (with_ops (replica_behind s c) more) b))
+    let more : List Op = all_made (replica_after s c) cs in
+    ap (λ l. ops ++ l) (all_made-append (replica_after s c) cs b)
+    ∙ sym (append_assoc ops more (all_made (with_ops (replica_after s c) more) b))
     ∙ ap (λ t. (ops ++ more) ++ all_made t b) (with_more s ops more)
 
 allowed-append : (s : State) (a b : List PlanChange) → AreAllowed s a → AreAllowed (with_ops s (all_made s a)) b → AreAllowed s (a ++ b)
 allowed-append s [] b x y = y
 allowed-append s (c ∷ cs) b x y =
-    (x.0, allowed-append (replica_behind s c) cs b x.1 (subst (λ t. AreAllowed t b) (sym (with_more s (made_of s c) (all_made (replica_behind s c) cs))) y))
+    (x.0, allowed-append (replica_after s c) cs b x.1 (subst (λ t. AreAllowed t b) (sym (with_more s (made_of s c) (all_made (replica_after s c) cs))) y))
 
 -- the operations of changes, and then of others
 pub made_join : (old mid : State) (a b : List PlanChange) → MakesChanges old mid a → all_made old (a ++ b) ≡ all_made old a ++ all_made mid b
@@ -117,7 +117,7 @@ stops_after Only old mid new changes why only changed stops = record {
 pub stops_here : (Only : PlanChange → Type 0) (old new : State) (why : ReviseFault) → StopsAt Only old new why → Stops Only old new why
 stops_here Only old new why stop = record { changes = []; only = All-nil Only; mid = old; changed = changed_none old; stop = stop }
 
--- memory was wanting before anything was made
+-- memory ran out before anything was made
 pub stops_first : (Only : PlanChange → Type 0) (s : State) → Stops Only s s (fault.Edit edit.NoMemory)
 stops_first Only s = stops_here Only s s (fault.Edit edit.NoMemory) (inl refl)
 

@@ -161,16 +161,16 @@ retitle_costs old new k n title made =
     made.retitled.stamped
 
 -- one that is refused, where the section and the place are not the cause
-behind_absence : (a b : Bool) (rest : Option MoveFault) (why : MoveFault) → why ≢ moving.NoSection → why ≢ moving.NoPlace
+after_absence : (a b : Bool) (rest : Option MoveFault) (why : MoveFault) → why ≢ moving.NoSection → why ≢ moving.NoPlace
     → option_or (option_or (cond a None (Some moving.NoSection)) (cond b None (Some moving.NoPlace))) rest ≡ Some why → rest ≡ Some why
-behind_absence true true rest why n p e = e
-behind_absence true false rest why n p e = absurd (p (sym (same_Some moving.NoPlace why e)))
-behind_absence false b rest why n p e = absurd (n (sym (same_Some moving.NoSection why e)))
+after_absence true true rest why n p e = e
+after_absence true false rest why n p e = absurd (p (sym (same_Some moving.NoPlace why e)))
+after_absence false b rest why n p e = absurd (n (sym (same_Some moving.NoSection why e)))
 
 move_cause : (s : State) (k j : ℕ) (why : MoveFault) → IsSound s → why ≢ moving.NoSection → why ≢ moving.NoPlace → move_refusal s k j ≡ Some why
     → LacksRoom s note_cost (fault.Move why)
 move_cause s k j why st n p e =
-    lacks_note s why (behind_absence (nat_lt k (length (arranged s.held.history))) (nat_lt j (length (arranged s.held.history))) (note_cause s) why n p e) st.few
+    lacks_note s why (after_absence (nat_lt k (length (arranged s.held.history))) (nat_lt j (length (arranged s.held.history))) (note_cause s) why n p e) st.few
 
 pub move_lacks : (s : State) (k j : ℕ) (why : MoveFault) → IsSound s → RefusesFor (move_refusal s k j) (Err why) → LacksRoom s note_cost (fault.Move why)
 move_lacks s k j moving.NoSection st r = tt

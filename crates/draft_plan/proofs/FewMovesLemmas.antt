@@ -297,7 +297,7 @@ module _ (h0 h1 h2 : List Op) (pairs : Pairs) (ts : List Identifier) (v : Lawful
     most = most_stay;
   }
 
--- those that stay unmoved, by the moves and the arrangement behind
+-- those that stay unmoved, by the moves and the arrangement after
 abbrev unmoved_by : List Op → List Move → List Identifier → Identifier → Bool
 unmoved_by o ms xs s = (is_one_of (arranged o) s && is_one_of xs s) && nat_eq (length (filter (λ (m : Move). id_eq m.section s) ms)) (length (moves_of o s))
 

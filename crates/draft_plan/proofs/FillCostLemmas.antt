@@ -81,7 +81,7 @@ put_lacks old mid k cut h chs why st first long exact =
     costs_stop old mid (cost h.old_len 0 0) (cost h.new_len h.new_len 0) (hunk_cost h) cut (fault.Edit why) (up (omega arith) (omega arith) (omega arith)) first
     (edit_lacks (Put k h.old_at chs) mid (cost h.new_len h.new_len 0) why st (omega (arith, long)) (omega (arith, long)) exact)
 
--- hunks behind one
+-- hunks after one
 put_more : (h : Hunk) (hs : List Hunk) → put_size (h ∷ hs) ≡ h.new_len + put_size hs
 put_more h hs = sum_by-cons (λ (g : Hunk). g.new_len) h hs
 
@@ -89,8 +89,8 @@ one_more : (h : Hunk) (hs : List Hunk) → IsUpTo (plus (hunks_cost hs) (hunk_co
 one_more h hs = record { operations = omega (arith, size_more h hs); counters = omega (arith, put_more h hs); stamps = omega arith }
 
 -- the hunks from one on are no more than all
-behind_size : (hs : List Hunk) (k : ℕ) → IsUpTo (hunks_cost (drop k hs)) (hunks_cost hs)
-behind_size hs k = record {
+after_size : (hs : List Hunk) (k : ℕ) → IsUpTo (hunks_cost (drop k hs)) (hunks_cost hs)
+after_size hs k = record {
   operations = omega (arith, sum_by-take-drop (λ (h : Hunk). h.old_len + h.new_len) hs k);
   counters = omega (arith, sum_by-take-drop (λ (h : Hunk). h.new_len) hs k);
   stamps = omega arith;
@@ -113,7 +113,7 @@ module _ (old mid : State) (hs : List Hunk) (left n : ℕ) (some : 0 < left) (fi
   -- or it was refused
   pub hunks_stop : (why : ReviseFault) → LacksRoom mid (hunk_cost h) why → LacksRoom old (hunks_cost hs) why
   hunks_stop why lacks =
-      lacks_more old (hunks_cost (drop (left - 1) hs)) (hunks_cost hs) why (behind_size hs (left - 1))
+      lacks_more old (hunks_cost (drop (left - 1) hs)) (hunks_cost hs) why (after_size hs (left - 1))
       (subst (λ l. LacksRoom old (hunks_cost l) why) (sym split)
       (costs_stop old mid (hunks_cost (drop left hs)) (hunk_cost h) (hunks_cost (h ∷ drop left hs)) n why (one_more h (drop left hs)) first lacks))
 

@@ -158,7 +158,7 @@ parts_of_form ps h =
     let read : List (List ℕ) → Result (List Part) ℕ = λ ls. form_result (first_bad 1 ls) (parts_of ls) in
     ap read (pieces_closed (form ps)) ∙ ap (λ o. form_result o (parts_of (pieces (form ps)))) (none_bad_first (pieces (form ps)) f.at_heading f.good) ∙ ap Ok f.parts
 
--- lines, joined by LF, with LF behind them
+-- lines, joined by LF, with LF after them
 join_block : (b : List ℕ) (bs : List (List ℕ)) → join_with_byte 10 (b ∷ bs) ++ 10 ∷ [] ≡ ended_lines (b ∷ bs)
 join_block b [] = sym (append-nil (b ++ 10 ∷ []))
 join_block b (c ∷ bs) = append_assoc b (10 ∷ join_with_byte 10 (c ∷ bs)) (10 ∷ []) ∙ ap (λ l. b ++ 10 ∷ l) (join_block c bs) ∙ sym (append_assoc b (10 ∷ []) (ended_lines (c ∷ bs)))
@@ -180,7 +180,7 @@ part_line l b rest e =
     ∙ ap (λ (t : List ℕ). l ++ 10 ∷ t) (sym (append_assoc (join_with_byte 10 b) (10 ∷ []) rest))
     ∙ sym (append_assoc l (10 ∷ []) ((join_with_byte 10 b ++ 10 ∷ []) ++ rest))
 
--- the lines up to the next heading, and the form of the parts behind them
+-- the lines up to the next heading, and the form of the parts after them
 reform_heading : (l : List ℕ) (ls : List (List ℕ)) → is_heading l ≡ true → ended_lines (with_empty_lines ls) ≡ ended_lines (before_heading ls) ++ form (parts_of ls)
     → ended_lines (with_empty_lines (l ∷ ls)) ≡ form (parts_of (l ∷ ls))
 reform_heading l [] e more = rw e (sym (part_line l [] [] e))

@@ -49,7 +49,7 @@ joined_below (op ∷ ops) h r c a ready own =
     (All-append P (option_to_list (id_of op)) (map (λ named. named.0) (names op)) (All-head (MakesBelow r c) op ops own) named) a)
     ready.1 (All-tail (MakesBelow r c) op ops own)
 
--- the next counter behind operations that join, of which each makes a counter below that
+-- the next counter after operations that join, of which each makes a counter below that
 next_joined : (old new : State) (ops : List Op) (k : ℕ) → Gains old new ops → ReadyInTurn old.held.history ops → All (MakesBelow old.number (next_of_own old + k)) ops
     → next_of_own new ≤ next_of_own old + k
 next_joined old new ops k g ready own =
@@ -105,7 +105,7 @@ lacks_more s a b (fault.Move (moving.IdsSpent n)) u l = omega (arith, u.counters
 lacks_more s a b (fault.Move (moving.TooMany n)) u l = omega (arith, u.operations, l)
 lacks_more s a b (fault.Move moving.NoMemory) u l = tt
 
--- where memory was wanting, no room was
+-- where memory ran out, no room was
 pub wants_room : (s : State) (c : Cost) (why : ReviseFault) → IsOutOfMemory why → LacksRoom s c why
 wants_room s c (fault.Edit edit.NoSection) w = tt
 wants_room s c (fault.Edit edit.OutOfRange) w = tt

@@ -36,12 +36,12 @@ byte_split c x r =
       | inr e ↦ rw e (onto_append c (split_lines x) r (some_lines x))
     ]
 
--- the lines of a text, and those behind its LF
+-- the lines of a text, and those after its LF
 pub pieces_split : (x rest : List ℕ) → pieces (x ++ 10 ∷ rest) ≡ split_lines x ++ pieces rest
 pieces_split [] rest = refl
 pieces_split (c ∷ x) rest = ap (add_byte c) (pieces_split x rest) ∙ byte_split c x (pieces rest)
 
--- one line, and those behind its LF
+-- one line, and those after its LF
 pub line_split : (line rest : List ℕ) → IsLine line → pieces (line ++ 10 ∷ rest) ≡ line ∷ pieces rest
 line_split line rest h = pieces_split line rest ∙ ap (λ s. s ++ pieces rest) (slice_split_none (λ b. nat_eq b 10) line h)
 
@@ -96,7 +96,7 @@ ends_closed : (b : ℕ) (bs : List ℕ) → ends_in_line_feed (b ∷ (bs ++ 10 �
 ends_closed b [] = refl
 ends_closed b (c ∷ bs) = ends_closed c bs
 
--- a closed draft is its lines, with LF behind each
+-- a closed draft is its lines, with LF after each
 pub closed_ended : (d : List ℕ) → with_last_line_end d ≡ ended_lines (draft_lines d)
 closed_ended [] = refl
 closed_ended (b ∷ bs) =

@@ -56,7 +56,7 @@ the_delete (Text id section left right ch) x k = absurd (false≢true k)
 the_delete (Delete target) x k = ap Delete (id_eq-true target x k)
 the_delete (Note id named code body) x k = absurd (false≢true k)
 
--- what is hidden behind operations was hidden in front of them, or one of them is its Delete
+-- what is hidden after operations was hidden in front of them, or one of them is its Delete
 hidden_by : (ops h : List Op) (x : Identifier) → is_hidden (history_with h ops) x ≡ true → (is_hidden h x ≡ true) ⊎ Contains ops (Delete x)
 hidden_by [] h x k = inl k
 hidden_by (op ∷ ops) h x k =

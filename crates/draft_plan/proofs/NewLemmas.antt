@@ -20,7 +20,7 @@ still_held (op ∷ ops) h x k = still_held ops (op ∷ h) x (holds-older op h x 
 not_yet : (ops h : List Op) (x : Identifier) → holds (history_with h ops) x ≡ false → holds h x ≡ false
 not_yet ops h x none = false_from_ne_true (holds h x) (λ k. true≢false (sym (still_held ops h x k) ∙ none))
 
--- what is new behind operations was new in front of them
+-- what is new after operations was new in front of them
 pub new_earlier : (old mid : State) (ops : List Op) → Gains old mid ops → (xs : List Identifier) → AreUnknown mid.held.history xs → AreUnknown old.held.history xs
 new_earlier old mid ops g xs new =
     All-weaker (λ x. holds mid.held.history x ≡ false) (λ x. holds old.held.history x ≡ false)

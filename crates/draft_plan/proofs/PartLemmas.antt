@@ -56,13 +56,13 @@ none_bad_here n l ls h =
       | inr e ↦ e
     ]
 
-pub none_bad_behind : (n : ℕ) (l : List ℕ) (ls : List (List ℕ)) → first_bad n (l ∷ ls) ≡ None → first_bad (n + 1) ls ≡ None
-none_bad_behind n l ls h = sym (ap (λ t. cond t (Some n) (first_bad (n + 1) ls)) (none_bad_here n l ls h)) ∙ h
+pub none_bad_after : (n : ℕ) (l : List ℕ) (ls : List (List ℕ)) → first_bad n (l ∷ ls) ≡ None → first_bad (n + 1) ls ≡ None
+none_bad_after n l ls h = sym (ap (λ t. cond t (Some n) (first_bad (n + 1) ls)) (none_bad_here n l ls h)) ∙ h
 
 good_all : (n : ℕ) (ls : List (List ℕ)) → first_bad n ls ≡ None → AreGood ls
 good_all n [] h = All-nil (λ l. is_bad l ≡ false)
 good_all n (l ∷ ls) h =
-    All-cons (λ l. is_bad l ≡ false) l ls (good_at n l (none_bad_here n l ls h)) (good_all (n + 1) ls (none_bad_behind n l ls h))
+    All-cons (λ l. is_bad l ≡ false) l ls (good_at n l (none_bad_here n l ls h)) (good_all (n + 1) ls (none_bad_after n l ls h))
 
 pub heading_first : (ls : List (List ℕ)) → first_bad 1 ls ≡ None → ends_part ls ≡ true
 heading_first [] h = refl

@@ -120,7 +120,7 @@ common_part old new p q r s c low order high start end = record {
   equal = λ i j d from to e. c.equal i j d (omega (arith, low, from)) (omega (arith, high, to)) (omega (arith, e, start));
 }
 
--- hunks in front of a range that none of them touches, and behind it
+-- hunks in front of a range that none of them touches, and after it
 record AreParted (old new : List ℕ) (least : ℕ) (p : Hunk) (hs : List Hunk) (q : Hunk) (at len : ℕ) : Type 0 where
   before : List Hunk
   behind : List Hunk

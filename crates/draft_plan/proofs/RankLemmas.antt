@@ -21,7 +21,7 @@ rank_yes q x xs n e = ap (λ b. cond b (suc (rank q xs n)) (rank q xs n)) e
 rank_no : (q : Identifier → Bool) (x : Identifier) (xs : List Identifier) (n : ℕ) → q x ≡ false → rank q (x ∷ xs) (suc n) ≡ rank q xs n
 rank_no q x xs n e = ap (λ b. cond b (suc (rank q xs n)) (rank q xs n)) e
 
--- a member that is chosen stands among those that are, behind as many as are chosen in front of it
+-- a member that is chosen stands among those that are, after as many as are chosen in front of it
 rank_at : (q : Identifier → Bool) (xs : List Identifier) (n : ℕ) (s : Identifier) → slice_get xs n ≡ Some s → q s ≡ true → slice_get (filter q xs) (rank q xs n) ≡ Some s
 rank_at q [] n s e t = cc
 rank_at q (x ∷ xs) zero s e t = let same : x ≡ s = cc in ap (λ l. slice_get l 0) (filter_yes q x xs (ap q same ∙ t)) ∙ ap Some same

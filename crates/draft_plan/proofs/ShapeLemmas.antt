@@ -128,7 +128,7 @@ stops_reshaped old mid new n why first s = stops_behind old mid new n why first.
 pub stops_shaped : (old mid new : State) (n : ℕ) (why : ReviseFault) → IsShaped old mid n → StopsAtLimit mid new why → StopsAtLimit old new why
 stops_shaped old mid new n why first s = stops_behind old mid new n why first.makes s
 
--- memory was wanting before anything was made
+-- memory ran out before anything was made
 pub wants_memory : (s : State) → StopsAtLimit s s (fault.Edit edit.NoMemory)
 wants_memory s = record { limit = tt; stops = stops_first AnyChange s }
 

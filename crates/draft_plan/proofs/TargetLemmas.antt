@@ -272,7 +272,7 @@ taken_places old new sections (Some i) anchor title before targets taken =
     subst (λ (s : State). KeepsPlaces old.held.history s.held.history) (sym (taken.kept i refl).1) (places_none old.held.history)
 taken_places old new sections None anchor title before targets taken = (taken.came refl).added.places
 
--- what sections are added behind is one of those of the parts before
+-- what sections are added after is one of those of the parts before
 pub anchored_in : (anchor : Option Identifier) (xs ys : List Identifier) → IfSome anchor (λ t. Contains xs t) → ((t : Identifier) → Contains xs t → Contains ys t)
     → IfSome anchor (λ t. Contains ys t)
 anchored_in None xs ys none within = none

@@ -240,7 +240,7 @@ hunk_made old mid new k cut put h scalars chs l m is i =
 pub cut_stops : (old new : State) (k at n : ℕ) (why : EditFault) → LeavesUnmade old new (Cut k at n) why → RefusesExactly old (Cut k at n) (Err why) → StopsEditing old new k why
 cut_stops old new k at n why left exact = stops_edit (EditsText k) old new (Cut k at n) why refl left exact
 
--- the put behind it
+-- the put after it
 pub put_stops : (old mid new : State) (k at n cut : ℕ) (chs : List ℕ) (why : EditFault) → RefusesExactly old (Cut k at n) (Ok cut) → IsMade old mid (Cut k at n) cut
     → LeavesUnmade mid new (Put k at chs) why → RefusesExactly mid (Put k at chs) (Err why) → StopsEditing old new k why
 put_stops old mid new k at n cut chs why cuts made left exact =
@@ -280,10 +280,10 @@ put_limit s k at chs x why e l exact =
     by_cause s (Put k at chs) why exact
     (λ f refused. limit_elements _ _ (refused_ops s (length chs)) f (limit_ops _ _ f) (first_cause s k at x (λ y. refused_elements s (length chs)) f e l refused))
 
--- so is the put behind a cut
-pub put_behind_limit : (old mid : State) (k at n cut : ℕ) (chs : List ℕ) (why : EditFault) → Lawful old.held.history → IsWithinText old k (at + n)
+-- so is the put after a cut
+pub put_after_limit : (old mid : State) (k at n cut : ℕ) (chs : List ℕ) (why : EditFault) → Lawful old.held.history → IsWithinText old k (at + n)
     → RefusesExactly old (Cut k at n) (Ok cut) → IsMade old mid (Cut k at n) cut → RefusesExactly mid (Put k at chs) (Err why) → IsLimit why
-put_behind_limit old mid k at n cut chs why w l cuts made exact =
+put_after_limit old mid k at n cut chs why w l cuts made exact =
     let x : Identifier = l.0 in
     let whole : at ≤ length (text old.held.history x) = omega (arith, l.2) in
     let first = cut_revised old mid k at n cut x w l.1 cuts made in
@@ -297,6 +297,6 @@ pub revised_stops : (old mid new : State) (k n : ℕ) (x : Identifier) (r : List
     → StopsEditing old new k why
 revised_stops old mid new k n x r why i stops = stops_after (EditsText k) old mid new i.changes (revise_fault.Edit why) i.edits i.changed stops
 
--- memory was wanting before anything was made
+-- memory ran out before anything was made
 pub wanting_first : (s : State) (k : ℕ) → StopsEditing s s k NoMemory
 wanting_first s k = stops_first (EditsText k) s

@@ -30,26 +30,26 @@ change_refusal s (Edit command) = option_map fault.Edit (refusal_message s comma
 change_refusal s (Move k j) = option_map fault.Move (move_refusal s k j)
 change_refusal s (Retitle k title) = option_map fault.Move (retitle_refusal s k)
 
--- the replica behind a change
-abbrev pub replica_behind : State → PlanChange → State
-replica_behind s change = with_ops s (made_of s change)
+-- the replica after a change
+abbrev pub replica_after : State → PlanChange → State
+replica_after s change = with_ops s (made_of s change)
 
--- the operations of changes that are made one after another, each on the replica behind those before it
+-- the operations of changes that are made one after another, each on the replica after those before it
 abbrev pub all_made : State → List PlanChange → List Op
 all_made s [] = []
-all_made s (change ∷ changes) = made_of s change ++ all_made (replica_behind s change) changes
+all_made s (change ∷ changes) = made_of s change ++ all_made (replica_after s change) changes
 
--- none of them is refused on the replica behind those before it
+-- none of them is refused on the replica after those before it
 abbrev pub AreAllowed : State → List PlanChange → Type 0
 AreAllowed s [] = Unit {0}
-AreAllowed s (change ∷ changes) = (change_refusal s change ≡ None) × AreAllowed (replica_behind s change) changes
+AreAllowed s (change ∷ changes) = (change_refusal s change ≡ None) × AreAllowed (replica_after s change) changes
 
 -- the changes are made, one after another, and nothing else
 pub record MakesChanges (old new : State) (changes : List PlanChange) : Type 0 where
   pub allowed : AreAllowed old changes
   pub gained : Gains old new (all_made old changes)
 
--- memory was wanting: for nothing that was begun, or for a change, of which the first operations stand, and not all
+-- memory ran out: for nothing that was begun, or for a change, of which the first operations stand, and not all
 abbrev pub IsPartly : (Only : PlanChange → Type 0) → (old new : State) → Type 0
 IsPartly Only old new = (new ≡ old) ⊎ ((change : PlanChange) × Only change × StopsPartly old new (made_of old change))
 

@@ -11,7 +11,7 @@ ends_in_line_feed [] = false
 ends_in_line_feed (b ∷ []) = nat_eq b 10
 ends_in_line_feed (b ∷ c ∷ bs) = ends_in_line_feed (c ∷ bs)
 
--- d where d is empty or ends in LF, and d with LF behind it otherwise
+-- d where d is empty or ends in LF, and d with LF after it otherwise
 abbrev pub with_last_line_end : List ℕ → List ℕ
 with_last_line_end [] = []
 with_last_line_end (b ∷ bs) = if ends_in_line_feed (b ∷ bs) then b ∷ bs else (b ∷ bs) ++ 10 ∷ []
@@ -20,7 +20,7 @@ with_last_line_end (b ∷ bs) = if ends_in_line_feed (b ∷ bs) then b ∷ bs el
 abbrev pub add_byte : ℕ → List (List ℕ) → List (List ℕ)
 add_byte b lines = if nat_eq b 10 then [] ∷ lines else onto_first b lines
 
--- the pieces of a text up to and without each LF; behind its last LF is one more where anything is left
+-- the pieces of a text up to and without each LF; after its last LF is one more where anything is left
 abbrev pub pieces : List ℕ → List (List ℕ)
 pieces [] = []
 pieces (b ∷ bs) = add_byte b (pieces bs)
@@ -60,7 +60,7 @@ abbrev pub before_heading : List (List ℕ) → List (List ℕ)
 before_heading [] = []
 before_heading (line ∷ lines) = if is_heading line then [] else line ∷ before_heading lines
 
--- a heading, and the lines behind it up to the next heading, joined by LF
+-- a heading, and the lines after it up to the next heading, joined by LF
 abbrev pub part_under : (heading : List ℕ) → (behind : List (List ℕ)) → Part
 part_under heading behind = record { title = heading_title heading; text = join_with_byte 10 (before_heading behind) }
 

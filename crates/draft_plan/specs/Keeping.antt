@@ -9,11 +9,11 @@ use Rattle.section_plan.specs.Likeness.{alike}
 use Rattle.draft_plan.specs.Plain.{arranged_part}
 use Rattle.draft_plan.specs.Revision.{HasOneMore, moves_of}
 
--- a section is arranged before and behind
+-- a section is arranged before and after
 abbrev pub SectionStays : (old new : List Op) → Identifier → Type 0
 SectionStays old new s = Contains (arranged old) s × Contains (arranged new) s
 
--- it is arranged before alone, or behind alone
+-- it is arranged before alone, or after alone
 abbrev pub IsDropped : (old new : List Op) → Identifier → Type 0
 IsDropped old new s = Contains (arranged old) s × (Contains (arranged new) s → ⊥)
 
@@ -54,12 +54,12 @@ has_no_move old new s = nat_eq (length (moves_of new s)) (length (moves_of old s
 abbrev pub stays_unmoved : (old new : List Op) → Identifier → Bool
 stays_unmoved old new s = (is_one_of (arranged old) s && is_one_of (arranged new) s) && has_no_move old new s
 
--- the sections that are chosen stand in one order before and behind
+-- the sections that are chosen stand in one order before and after
 abbrev pub InOneOrder : (old new : List Op) → (chosen : Identifier → Bool) → Type 0
 InOneOrder old new chosen = filter chosen (arranged old) ≡ filter chosen (arranged new)
 
 -- only what moved is moved: a section that stays has one new move at most. Those that stay and are not moved stand in one
--- order before and behind, and of no choice of sections that do there are more
+-- order before and after, and of no choice of sections that do there are more
 pub record MovesFew (old new : List Op) : Type 0 where
   pub once : (s : Identifier) → SectionStays old new s → HasOneMore (moves_of old s) (moves_of new s)
   pub order : InOneOrder old new (stays_unmoved old new)

@@ -16,20 +16,20 @@ abbrev pub ends_part : List (List ℕ) → Bool
 ends_part [] = true
 ends_part (line ∷ lines) = is_heading line
 
--- an empty line is behind a heading that has no line behind it
+-- an empty line is after a heading that has no line after it
 abbrev pub with_empty : (line : List ℕ) → (behind filled : List (List ℕ)) → List (List ℕ)
 with_empty line behind filled = if is_heading line && ends_part behind then line ∷ [] ∷ filled else line ∷ filled
 
--- the lines, with an empty line behind each heading that has no line behind it
+-- the lines, with an empty line after each heading that has no line after it
 abbrev pub with_empty_lines : List (List ℕ) → List (List ℕ)
 with_empty_lines [] = []
 with_empty_lines (line ∷ lines) = with_empty line lines (with_empty_lines lines)
 
--- each line, and LF behind it
+-- each line, and LF after it
 abbrev pub ended_lines : List (List ℕ) → List ℕ
 ended_lines lines = flat_map (λ line. line ++ 10 ∷ []) lines
 
--- the form of a draft's parts is the closed draft, but for an empty line behind each heading that had none
+-- the form of a draft's parts is the closed draft, but for an empty line after each heading that had none
 pub record IsReformed (d : List ℕ) (ps : List Part) : Type 0 where
   pub draft : with_last_line_end d ≡ ended_lines (draft_lines d)
   pub form_is : form ps ≡ ended_lines (with_empty_lines (draft_lines d))

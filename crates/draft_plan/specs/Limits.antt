@@ -104,7 +104,7 @@ abbrev pub by_edit : Result ℕ EditFault → Result ℕ ReviseFault
 by_edit (Ok n) = Ok n
 by_edit (Err why) = Err (fault.Edit why)
 
--- revising the text of a section costs what such hunks cost, unless memory was wanting
+-- revising the text of a section costs what such hunks cost, unless memory ran out
 abbrev pub CostsText : (old new : State) → Identifier → (reads : List ℕ) → Result ℕ EditFault → Type 0
 CostsText old new section reads (Err edit.NoMemory) = Unit {0}
 CostsText old new section reads result =
@@ -129,7 +129,7 @@ revision_cost h parts =
     cost (arranged_letters h + part_letters parts + length (arranged h) + 3 * length parts) (part_letters parts + 3 * length parts)
     (2 * length parts)
 
--- memory was wanting
+-- memory ran out
 abbrev pub IsOutOfMemory : ReviseFault → Type 0
 IsOutOfMemory (fault.Edit edit.NoMemory) = Unit {0}
 IsOutOfMemory (fault.Move moving.NoMemory) = Unit {0}

@@ -56,7 +56,7 @@ abbrev pub MayBeDeleted : (old new : List Op) → Identifier → Type 0
 MayBeDeleted old new x = Contains (arranged old) x ⊎ IsElementKept old new x
 
 -- The operations were made, and each is needed: what a Delete names was shown, and is no letter of a section that is
--- dropped, and each Section and each Text that was made is shown behind.
+-- dropped, and each Section and each Text that was made is shown after.
 pub record NoneIsNeedless (old new : State) : Type 0 where
   pub made : List Op
   pub gained : Gains old new made

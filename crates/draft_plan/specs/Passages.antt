@@ -31,7 +31,7 @@ abbrev pub AreShown : (history : List Op) → (section first last : Identifier) 
 AreShown history section first last =
     Contains (shown (within section) history) first × Contains (shown (within section) history) last
 
--- no hunk touches the positions from one to another one: each ends in front of them, or begins behind them
+-- no hunk touches the positions from one to another one: each ends in front of them, or begins after them
 abbrev pub LieUntouched : List Hunk → (from to : ℕ) → Type 0
 LieUntouched hs from to = All (λ h. (h.old_at + h.old_len ≤ from) ⊎ (to < h.old_at)) hs
 
@@ -62,7 +62,7 @@ PassagesStay = (old new : State) (section first last : Identifier) (elements : L
     → (was : IsShownPassage old.held.history section first last elements) → PassageStays old new section kept first last elements was
 
 -- The span of a comment whose anchors are the first and the last element of a passage: it begins where the passage does, and
--- ends behind it. So it cuts the passage out of what is shown.
+-- ends after it. So it cuts the passage out of what is shown.
 pub record IsSpanned (history : List Op) (section first last : Identifier) (elements : List Identifier)
     (p : IsShownPassage history section first last elements) : Type 0 where
   pub begins : (margin_span history section first last).from ≡ p.from

@@ -139,7 +139,7 @@ plan_cost h parts pairs moved hunks =
     plus (shaping pairs moved (length (arranged h)) (length parts))
     (filling (retitle_count_of_parts h (section_before h pairs) parts (length parts)) hunks)
 
--- memory was wanting, or there is less room than such a plan costs
+-- memory ran out, or there is less room than such a plan costs
 abbrev pub LacksPlan : State → List Part → ReviseFault → Type 0
 LacksPlan s parts why =
     IsOutOfMemory why

@@ -9,7 +9,7 @@ use Rattle.section_plan.specs.declared.part.Part.{Part as ReadPart}
 abbrev pub seen_part : ReadPart → Part
 seen_part p = record { title = p.title.now; text = p.text.now }
 
--- the first line of a text, without its LF, and what is behind it
+-- the first line of a text, without its LF, and what is after it
 pub record IsFirstLine (text line rest : List ℕ) : Type 0 where
   pub one_line : All (λ b. nat_eq b 10 ≡ false) line
   pub split : (text ≡ line ++ 10 ∷ rest) ⊎ ((text ≡ line) × (rest ≡ []))

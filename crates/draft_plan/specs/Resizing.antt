@@ -37,16 +37,16 @@ pub record IsAdded (old new : State) (number : ℕ) (title : List ℕ) (section 
   pub all : (t : Identifier) → Contains (shown catalogue new.held.history) t
       ↔ (Contains (shown catalogue old.held.history) t ⊎ (t ≡ section))
 
--- the number behind that of a section, or the first number
-pub record IsBehind (shown_now : List Identifier) (section : Option Identifier) (number : ℕ) : Type 0 where
+-- the number after that of a section, or the first number
+pub record IsAfter (shown_now : List Identifier) (section : Option Identifier) (number : ℕ) : Type 0 where
   pub within : number ≤ length shown_now
   pub first : section ≡ None → number ≡ 0
   pub behind : (s : Identifier) → section ≡ Some s → (n : ℕ) × (slice_get shown_now n ≡ Some s) × (number ≡ n + 1)
 
--- a section with this title was added, directly behind another one, or as the first one
-pub record ComesBehind (old new : State) (anchor : Option Identifier) (title : List ℕ) (section : Identifier) : Type 0 where
+-- a section with this title was added, directly after another one, or as the first one
+pub record ComesAfter (old new : State) (anchor : Option Identifier) (title : List ℕ) (section : Identifier) : Type 0 where
   pub number : ℕ
-  pub behind : IsBehind (shown catalogue old.held.history) anchor number
+  pub behind : IsAfter (shown catalogue old.held.history) anchor number
   pub added : IsAdded old new number title section
 
 -- the sections of the parts in front of one: a part has the section that it is matched with, or one that was not held at
@@ -77,10 +77,10 @@ pub record AreTargets (start now : State) (sections : List Identifier) (pairs : 
   pub titled : AreTitled now.held.history pairs parts targets
 
 -- the section of one part more came to these: that at a place, or, where there is none, one that was added with the title
--- behind a section, or as the first one
+-- after a section, or as the first one
 pub record IsPartTaken (old new : State) (sections : List Identifier) (place : Option ℕ) (anchor : Option Identifier) (title : List ℕ)
     (before targets : List Identifier) : Type 0 where
   pub section : Identifier
   pub targets_are : targets ≡ before ++ section ∷ []
   pub kept : (i : ℕ) → place ≡ Some i → (slice_get sections i ≡ Some section) × (new ≡ old)
-  pub came : place ≡ None → ComesBehind old new anchor title section
+  pub came : place ≡ None → ComesAfter old new anchor title section

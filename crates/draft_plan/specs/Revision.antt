@@ -65,7 +65,7 @@ pub record IsRevision (old new : State) (parts : List Part) (n : ℕ) : Type 0 w
 abbrev pub MakesNothing : (old new : State) → (parts : List Part) → (n : ℕ) → Type 0
 MakesNothing old new parts n = arranged_parts old.held.history ≡ parts → (n ≡ 0) × (new ≡ old)
 
--- the fault is a limit that was met, or memory was wanting: nothing was asked for that is not there
+-- the fault is a limit that was met, or memory ran out: nothing was asked for that is not there
 abbrev pub IsLimit : ReviseFault → Type 0
 IsLimit (fault.Edit edit.NoSection) = ⊥
 IsLimit (fault.Edit edit.OutOfRange) = ⊥
@@ -73,7 +73,7 @@ IsLimit (fault.Move moving.NoSection) = ⊥
 IsLimit (fault.Move moving.NoPlace) = ⊥
 IsLimit why = Unit {0}
 
--- changes were made up to one that is refused for a limit, or for which memory was wanting
+-- changes were made up to one that is refused for a limit, or for which memory ran out
 pub record StopsAtLimit (old new : State) (why : ReviseFault) : Type 0 where
   pub limit : IsLimit why
   pub stops : Stops (λ (c : PlanChange). Unit {0}) old new why

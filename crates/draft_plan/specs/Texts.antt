@@ -91,7 +91,7 @@ size hs = sum_by (λ h. h.old_len + h.new_len) hs
 abbrev pub CountsHunks : (old new : State) → (section : Identifier) → (n : ℕ) → Type 0
 CountsHunks old new section n = (kept : KeepsElements old new section) × (n ≡ size kept.hunks)
 
--- the edits of the section's text stopped: those in front of the one that was refused stand, or memory was wanting
+-- the edits of the section's text stopped: those in front of the one that was refused stand, or memory ran out
 abbrev pub StopsEditing : (old new : State) → (section : ℕ) → EditFault → Type 0
 StopsEditing old new section why = Stops (EditsText section) old new (fault.Edit why)
 

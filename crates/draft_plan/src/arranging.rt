@@ -159,7 +159,7 @@ fn move_one(
     Ok(arranger.move_section(alloc, replica, step.from, step.to)?)
 }
 
-/// Moves the section of the next part behind that of the part before it, unless it stands there or stays.
+/// Moves the section of the next part after that of the part before it, unless it stands there or stays.
 fn move_next(
     alloc: Global,
     replica: &mut Replica,

@@ -3,7 +3,7 @@ use catalogue_notes::MoveFault;
 use fugue_ids::NoMemory;
 use origin_model::EditFault;
 
-/// Why a revision stopped: an edit, or a move or retitle, was refused, or memory was wanting.
+/// Why a revision stopped: an edit, or a move or retitle, was refused, or memory ran out.
 #[derive(Clone, Copy, Debug)]
 pub enum ReviseFault {
     Edit(EditFault),

@@ -3,7 +3,7 @@ ghost use Rattle.draft_plan.specs.Laws.{FormOfParts, OthersAreSpared, PartsOfFor
 ghost use Rattle.draft_plan.specs.Passages.{PassagesAreSpans, PassagesStay};
 ghost use Rattle.draft_plan.specs.Plain.{ArrangedReads};
 
-/// The form of a draft's parts is the draft, but for its last LF and for empty lines behind headings.
+/// The form of a draft's parts is the draft, but for its last LF and for empty lines after headings.
 pub fn form_of_parts()
     ensures { FormOfParts }
 {}

@@ -13,7 +13,7 @@ ghost use Rattle.section_plan.specs.Matching.{IsMatching, section_of};
 ghost use Rattle.draft_plan.specs.Limits.{CostsShaping, LacksRoom, cost};
 ghost use Rattle.draft_plan.specs.Plans.{added_count, dropped_count, unmatched_count};
 ghost use Rattle.draft_plan.specs.Readings.{seen_part};
-ghost use Rattle.draft_plan.specs.Resizing.{AreDistinct, AreLeft, AreTargets, IsAdded, IsBehind, IsPartTaken, IsWithout};
+ghost use Rattle.draft_plan.specs.Resizing.{AreDistinct, AreLeft, AreTargets, IsAdded, IsAfter, IsPartTaken, IsWithout};
 ghost use Rattle.draft_plan.specs.Revision.{StopsAtLimit};
 ghost use Rattle.draft_plan.specs.Shaping.{KeepsPlaces, Reshapes, Shapes};
 
@@ -73,10 +73,10 @@ fn drop_free(replica: &mut Replica, entries: &[Entry], pairs: &Pairs) -> Result<
     Ok(made)
 }
 
-/// The number behind that of a section, or the first number.
-fn number_behind(replica: &Replica, section: Option<ElementId>) -> usize
+/// The number after that of a section, or the first number.
+fn number_after(replica: &Replica, section: Option<ElementId>) -> usize
     requires { IfSome section (λ s. Contains (shown catalogue replica.now.held.history) s) }
-    ensures { IsBehind (shown catalogue replica.now.held.history) section result }
+    ensures { IsAfter (shown catalogue replica.now.held.history) section result }
 {
     let Some(section) = section else {
         return 0;
@@ -128,7 +128,7 @@ fn staying_parts(alloc: Global, pairs: &Pairs, parts: usize) -> Result<Vec<bool>
     Ok(stays)
 }
 
-/// What the next section is added behind, once a part has its section: that, if it stays where it is.
+/// What the next section is added after, once a part has its section: that, if it stays where it is.
 fn next_anchor(
     stays: &[bool],
     part: usize,
@@ -144,8 +144,8 @@ fn next_anchor(
     anchor
 }
 
-/// Adds a section for a part, unless it has one: behind the last section of the parts before it that stays or was added, so
-/// that it stands at its place once the others are moved.
+/// Adds a section for a part, unless it has one: after the last section of the parts before it that stays or was added,
+/// so that it stands at its place once the others are moved.
 fn take_part(
     alloc: Global,
     replica: &mut Replica,
@@ -178,7 +178,7 @@ fn take_part(
         *anchor = next_anchor(stays, part, section, *anchor);
         return Ok(0);
     }
-    let number = number_behind(replica, *anchor);
+    let number = number_after(replica, *anchor);
     let section = add_one(alloc, replica, number, title)?;
     keep_section(sections, section)?;
     *anchor = Some(section);

@@ -95,7 +95,7 @@ fn revise_hunks(
     Ok(made)
 }
 
-/// Revises the shown text of the section with so many shown ones before it, and answers how many operations that took.
+/// Revises the shown text of the section with so many shown ones before it, and returns how many operations that took.
 /// What stands between hunks is left, and each hunk is cut and typed anew; they are found by lines and words.
 pub fn revise_text(
     alloc: Global,

@@ -14,8 +14,8 @@ use Rattle.origin_model.specs.declared.edit_fault.EditFault.{EditFault}
 use Rattle.origin_model.specs.declared.edit_fault.EditFault.TheVariants as edit
 use Rattle.edit_script.specs.declared.run.ScriptFault.{ScriptFault}
 use Rattle.edit_script.specs.declared.run.ScriptFault.TheVariants as fault
-use Rattle.edit_script.specs.declared.run.LineFault.{LineFault}
-use Rattle.edit_script.specs.declared.run.LineFault.TheVariants as why
+use Rattle.edit_script.specs.declared.line.LineFault.{LineFault}
+use Rattle.edit_script.specs.declared.line.LineFault.TheVariants as why
 use Rattle.edit_script.specs.Grammar.{Asks, IsFaultyLine, IsNote, lines}
 use Rattle.edit_script.specs.Lines.{fault_at}
 use Rattle.edit_script.specs.Scripts.{Does, IsRefusedEdit, LinesLead, RunsUpTo, RunsWhole, StopsAtLine, by_scalars, line_refusal}
@@ -23,7 +23,7 @@ use Rattle.edit_script.proofs.DecideLemmas.{line_is_one}
 use Rattle.edit_script.proofs.RunLemmas.{leads_grow}
 use Rattle.origin_model.proofs.edits.MadeLemmas.{join_at_end}
 
--- no refusal is a want of memory
+-- no refusal is an allocation failure
 abbrev NotMemory : Option EditFault → Type 0
 NotMemory None = Unit {0}
 NotMemory (Some f) = f ≢ edit.NoMemory

@@ -69,7 +69,7 @@ some_writing ch (plain differs other e) = omega (arith, ap length e, length-enco
 pub escaped_some : (ch : ℕ) → 0 < length (escaped_scalar ch)
 escaped_some ch = some_writing ch (written ch)
 
--- what is behind the writing of the first of two scalars that are written alike
+-- what is after the writing of the first of two scalars that are written alike
 pub escaped_same : (a b : ℕ) (x y : List ℕ) → escaped_scalar a ++ x ≡ escaped_scalar b ++ y → (a ≡ b) × (x ≡ y)
 escaped_same a b x y is = one_writing a b x y (written a) (written b) is
 
@@ -101,7 +101,7 @@ behind_slash : (text x : List ℕ) (c : ℕ) → text ≡ encode_utf8 c ++ x →
 behind_slash text x c is c_is ch y other =
     after_slash ch x y (written ch) (sym (ap (λ (l : List ℕ). l ++ x) slash) ∙ ap (λ (d : ℕ). encode_utf8 d ++ x) (sym c_is) ∙ sym is ∙ other)
 
--- no text ends behind a backslash
+-- no text ends after a backslash
 pub no_last_backslash : (text x : List ℕ) (c : ℕ) → text ≡ encode_utf8 c ++ x → c ≡ 92 → length x ≡ 0 → (ch : ℕ) (y : List ℕ) → text ≡ escaped_scalar ch ++ y → ⊥
 no_last_backslash text x c is c_is none ch y other =
     elim (behind_slash text x c is c_is ch y other) [
@@ -118,11 +118,11 @@ no_other_backslash text x z c d is c_is d_is no_n no_slash ch y other =
       | inr e ↦ no_slash ((encode_same d 92 z y (sym d_is ∙ e)).0)
     ]
 
--- what is behind a front of a written text
-pub written_behind : (done all rest : List ℕ) → flat_map escaped_scalar done ++ rest ≡ flat_map escaped_scalar all
+-- what is after a front of a written text
+pub written_after : (done all rest : List ℕ) → flat_map escaped_scalar done ++ rest ≡ flat_map escaped_scalar all
     → (more : List ℕ) × (all ≡ done ++ more) × (flat_map escaped_scalar more ≡ rest)
-written_behind [] all rest is = (all, refl, sym is)
-written_behind (a ∷ done) [] rest is =
+written_after [] all rest is = (all, refl, sym is)
+written_after (a ∷ done) [] rest is =
     let long = ap length is in
     absurd (omega (
       arith,
@@ -131,10 +131,10 @@ written_behind (a ∷ done) [] rest is =
       length-append (escaped_scalar a) (flat_map escaped_scalar done),
       escaped_some a,
     ))
-written_behind (a ∷ done) (b ∷ all) rest is =
+written_after (a ∷ done) (b ∷ all) rest is =
     let same = escaped_same a b (flat_map escaped_scalar done ++ rest) (flat_map escaped_scalar all)
     (sym (append_assoc (escaped_scalar a) (flat_map escaped_scalar done) rest) ∙ is) in
-    let further = written_behind done all rest same.1 in
+    let further = written_after done all rest same.1 in
     (further.0, ap₂ (λ (c : ℕ) (l : List ℕ). c ∷ l) (sym same.0) further.1, further.2)
 
 -- one more scalar was read
@@ -153,7 +153,7 @@ written_next text new rest behind ch is first =
 pub stuck : (text new rest other : List ℕ) → text ≡ flat_map escaped_scalar new ++ rest → 0 < length rest
     → ((ch : ℕ) (y : List ℕ) → rest ≡ escaped_scalar ch ++ y → ⊥) → text ≡ flat_map escaped_scalar other → ⊥
 stuck text new rest other is some none spelled =
-    let behind = written_behind new other rest (sym is ∙ spelled) in
+    let behind = written_after new other rest (sym is ∙ spelled) in
     first behind.0 behind.2
   where
     first : (more : List ℕ) → flat_map escaped_scalar more ≡ rest → ⊥
@@ -163,7 +163,7 @@ stuck text new rest other is some none spelled =
 -- where nothing is left, all was read
 pub all_read : (text new rest other : List ℕ) → text ≡ flat_map escaped_scalar new ++ rest → length rest ≡ 0 → text ≡ flat_map escaped_scalar other → new ≡ other
 all_read text new rest other is none spelled =
-    let behind = written_behind new other rest (sym is ∙ spelled) in
+    let behind = written_after new other rest (sym is ∙ spelled) in
     over behind.0 behind.2 behind.1
   where
     over : (more : List ℕ) → flat_map escaped_scalar more ≡ rest → other ≡ new ++ more → new ≡ other

@@ -1,4 +1,4 @@
--- What stands behind the first word of a line.
+-- What stands after the first word of a line.
 use Rattle.std.proofs.Common.{◌≡◌, ◌≢◌, inl, inr, ◌≤◌, ◌<◌, ◌+◌, ◌^◌, ℕ, zero, suc, nat_lt, true, List, [], ◌∷◌, ◌++◌, length, refl, sym, ap, subst, ◌∙◌, arith}
 use Rattle.std.specs.Prelude.{decimal, codes, encode_utf8_all}
 use Rattle.std.specs.List.{flat_map, list_all}
@@ -31,7 +31,7 @@ begins_with_word line (Put k at new) asks = (_, asks.line_is)
 begins_with_word line (Cut k at n) asks = (_, asks.line_is)
 begins_with_word line (DropSection k) asks = (_, asks.line_is)
 
--- what stands behind `add `
+-- what stands after `add `
 pub record AddsAt (rest : List ℕ) (command : Command) : Type 0 where
   pub at : ℕ
   pub title : List ℕ
@@ -48,7 +48,7 @@ adds rest (Put k at new) asks = absurd (other_head 97 112 _ _ asks.line_is refl)
 adds rest (Cut k at n) asks = absurd (other_head 97 99 _ _ asks.line_is refl)
 adds rest (DropSection k) asks = absurd (other_head 97 100 _ _ asks.line_is refl)
 
--- what stands behind `put `
+-- what stands after `put `
 pub record PutsAt (rest : List ℕ) (command : Command) : Type 0 where
   pub section : ℕ
   pub at : ℕ
@@ -67,7 +67,7 @@ puts rest (Put k at new) asks =
 puts rest (Cut k at n) asks = absurd (other_head 112 99 _ _ asks.line_is refl)
 puts rest (DropSection k) asks = absurd (other_head 112 100 _ _ asks.line_is refl)
 
--- what stands behind `cut `
+-- what stands after `cut `
 pub record CutsAt (rest : List ℕ) (command : Command) : Type 0 where
   pub section : ℕ
   pub at : ℕ
@@ -86,7 +86,7 @@ cuts rest (Cut k at n) asks =
     record { section = k; at = at; count = n; is = refl; small = asks.writable.0; place_small = asks.writable.1; count_small = asks.writable.2; rest_is = cc }
 cuts rest (DropSection k) asks = absurd (other_head 99 100 _ _ asks.line_is refl)
 
--- what stands behind `drop `
+-- what stands after `drop `
 pub record DropsIt (rest : List ℕ) (command : Command) : Type 0 where
   pub section : ℕ
   pub is : command ≡ DropSection section
@@ -142,8 +142,8 @@ ascii_if (byte ∷ bytes) all zero = ltb-true byte 128 ((and_parts (nat_lt byte 
 ascii_if (byte ∷ bytes) all (suc i) = ascii_if bytes ((and_parts (nat_lt byte 128) (list_all (λ (b : ℕ). nat_lt b 128) bytes) all).1) i
 
 -- an ASCII word, a space and a text are a text
-utf8_behind : (word rest : List ℕ) → IsAscii word → IsUtf8 rest → IsUtf8 (word ++ 32 ∷ rest)
-utf8_behind word rest ascii utf8 =
+utf8_after : (word rest : List ℕ) → IsAscii word → IsUtf8 rest → IsUtf8 (word ++ 32 ∷ rest)
+utf8_after word rest ascii utf8 =
     IsUtf8-append word (32 ∷ rest) (IsUtf8-from_ascii word ascii) (IsUtf8-append (32 ∷ []) rest (IsUtf8-from_ascii (32 ∷ []) (ascii_if (32 ∷ []) refl)) utf8)
 
 utf8_decimal : (n : ℕ) → n < 2 ^ 64 → IsUtf8 (decimal n)
@@ -162,14 +162,14 @@ utf8_text (ch ∷ new) all =
 
 utf8_line : (command : Command) → IsWritable command → IsUtf8 (command_line command)
 utf8_line (Add at title) can =
-    utf8_behind (codes "add") _ (ascii_if (codes "add") refl) (utf8_behind (decimal (at + 1)) _ (IsAscii-decimal (at + 1) (omega (arith, can.0))) (title, (can.1, refl)))
+    utf8_after (codes "add") _ (ascii_if (codes "add") refl) (utf8_after (decimal (at + 1)) _ (IsAscii-decimal (at + 1) (omega (arith, can.0))) (title, (can.1, refl)))
 utf8_line (Put k at new) can =
-    utf8_behind (codes "put") _ (ascii_if (codes "put") refl) (utf8_behind (decimal (k + 1)) _ (IsAscii-decimal (k + 1) (omega (arith, can.0)))
-    (utf8_behind (decimal at) _ (IsAscii-decimal at (omega (arith, can.1))) (utf8_text new can.2)))
+    utf8_after (codes "put") _ (ascii_if (codes "put") refl) (utf8_after (decimal (k + 1)) _ (IsAscii-decimal (k + 1) (omega (arith, can.0)))
+    (utf8_after (decimal at) _ (IsAscii-decimal at (omega (arith, can.1))) (utf8_text new can.2)))
 utf8_line (Cut k at n) can =
-    utf8_behind (codes "cut") _ (ascii_if (codes "cut") refl) (utf8_behind (decimal (k + 1)) _ (IsAscii-decimal (k + 1) (omega (arith, can.0)))
-    (utf8_behind (decimal at) _ (IsAscii-decimal at (omega (arith, can.1))) (utf8_decimal n (omega (arith, can.2)))))
-utf8_line (DropSection k) can = utf8_behind (codes "drop") _ (ascii_if (codes "drop") refl) (utf8_decimal (k + 1) (omega (arith, can)))
+    utf8_after (codes "cut") _ (ascii_if (codes "cut") refl) (utf8_after (decimal (k + 1)) _ (IsAscii-decimal (k + 1) (omega (arith, can.0)))
+    (utf8_after (decimal at) _ (IsAscii-decimal at (omega (arith, can.1))) (utf8_decimal n (omega (arith, can.2)))))
+utf8_line (DropSection k) can = utf8_after (codes "drop") _ (ascii_if (codes "drop") refl) (utf8_decimal (k + 1) (omega (arith, can)))
 
 -- a line that asks for an edit is UTF-8
 pub asks_utf8 : (line : List ℕ) (command : Command) → Asks line command → IsUtf8 line

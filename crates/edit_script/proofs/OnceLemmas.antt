@@ -14,8 +14,8 @@ use Rattle.origin_model.specs.declared.edit_fault.EditFault.{EditFault}
 use Rattle.origin_model.specs.declared.edit_fault.EditFault.TheVariants as edit
 use Rattle.edit_script.specs.declared.run.ScriptFault.{ScriptFault}
 use Rattle.edit_script.specs.declared.run.ScriptFault.TheVariants as fault
-use Rattle.edit_script.specs.declared.run.LineFault.{LineFault}
-use Rattle.edit_script.specs.declared.run.LineFault.TheVariants as why
+use Rattle.edit_script.specs.declared.line.LineFault.{LineFault}
+use Rattle.edit_script.specs.declared.line.LineFault.TheVariants as why
 use Rattle.edit_script.specs.Grammar.{Asks, HasNoSpace, IsFaultyLine, IsNote, escaped_scalar, lines}
 use Rattle.edit_script.specs.Laws.{AsksOnce, RunsOnce}
 use Rattle.edit_script.specs.Lines.{fault_at}
@@ -26,8 +26,8 @@ use Rattle.edit_script.proofs.EscapeLemmas.{all_read, other_head}
 use Rattle.edit_script.proofs.LineLemmas.{adds, cuts, drops, puts}
 use Rattle.edit_script.proofs.WordLemmas.{decimal_spaceless}
 
-behind_first : (byte : ℕ) (word : List ℕ) → HasNoSpace (byte ∷ word) → HasNoSpace word
-behind_first byte word spaceless = λ k d within. spaceless (suc k) d (omega (arith, within))
+after_first : (byte : ℕ) (word : List ℕ) → HasNoSpace (byte ∷ word) → HasNoSpace word
+after_first byte word spaceless = λ k d within. spaceless (suc k) d (omega (arith, within))
 
 -- a text is split at its first space in one way
 one_split : (a b x y : List ℕ) → HasNoSpace a → HasNoSpace b → a ++ 32 ∷ x ≡ b ++ 32 ∷ y → (a ≡ b) × (x ≡ y)
@@ -43,7 +43,7 @@ one_split (c ∷ a) [] x y left right is = let head : c ∷ (a ++ 32 ∷ x) ≡ 
 one_split (c ∷ a) (d ∷ b) x y left right is =
     let whole : c ∷ (a ++ 32 ∷ x) ≡ d ∷ (b ++ 32 ∷ y) = is in
     let parts = halves c d (a ++ 32 ∷ x) (b ++ 32 ∷ y) whole in
-    let further = one_split a b x y (behind_first c a left) (behind_first d b right) parts.1 in
+    let further = one_split a b x y (after_first c a left) (after_first d b right) parts.1 in
     (ap₂ (λ (n : ℕ) (l : List ℕ). n ∷ l) parts.0 further.0, further.1)
   where
     halves : (m n : ℕ) (u v : List ℕ) → m ∷ u ≡ n ∷ v → (m ≡ n) × (u ≡ v)

@@ -10,8 +10,8 @@ use Rattle.std.proofs.lemmas.List.Splits.{slice_split-cons_no, slice_split_first
 use Rattle.fugue_ids.specs.declared.op.Op.{Op}
 use Rattle.origin_model.specs.operations.History.{accepted}
 use Rattle.origin_model.specs.edits.State.{State}
-use Rattle.edit_script.specs.declared.run.LineFault.{LineFault}
-use Rattle.edit_script.specs.declared.run.LineFault.TheVariants as why
+use Rattle.edit_script.specs.declared.line.LineFault.{LineFault}
+use Rattle.edit_script.specs.declared.line.LineFault.TheVariants as why
 use Rattle.edit_script.specs.declared.run.ScriptFault.{ScriptFault}
 use Rattle.edit_script.specs.declared.run.ScriptFault.TheVariants as fault
 use Rattle.origin_model.specs.declared.edit_fault.EditFault.TheVariants as edit
@@ -21,7 +21,7 @@ use Rattle.edit_script.specs.Sources.{IsScript}
 use Rattle.outer_ports.specs.Sources.{SourceView}
 use Rattle.edit_script.specs.Lines.{LineFails, WasRun, fault_at}
 
--- what the lines make stands behind what was accepted
+-- what the lines make stands after what was accepted
 does_grow : (old new : State) (line : List ℕ) (ops : List Op) → Does old new line ops → accepted new.held.history ≡ accepted old.held.history ++ ops
 does_grow old new line ops (inl note) =
     ap (λ (s : State). accepted s.held.history) note.1 ∙ sym (append-nil (accepted old.held.history)) ∙ ap (λ (l : List Op). accepted old.held.history ++ l) (sym note.2)
@@ -66,19 +66,19 @@ pub record Walk (old now : State) (script : List ℕ) (rest : Option (List ℕ))
   pub ops : List Op
   pub leads : LinesLead old now front ops
 
-left_behind : (bytes line : List ℕ) (behind : Option (List ℕ)) → BeginsWith bytes line behind → (lines bytes ≡ line ∷ lines_left behind) × (bytes_left behind ≤ length bytes)
-left_behind bytes line None begins = (begins, omega arith)
-left_behind bytes line (Some rest) begins = (begins.0, omega (arith, begins.1))
+left_after : (bytes line : List ℕ) (behind : Option (List ℕ)) → BeginsWith bytes line behind → (lines bytes ≡ line ∷ lines_left behind) × (bytes_left behind ≤ length bytes)
+left_after bytes line None begins = (begins, omega arith)
+left_after bytes line (Some rest) begins = (begins.0, omega (arith, begins.1))
 
 -- less is left
 pub less_left : (bytes line : List ℕ) (behind : Option (List ℕ)) → BeginsWith bytes line behind → bytes_left behind < bytes_left (Some bytes)
-less_left bytes line behind begins = omega (arith, (left_behind bytes line behind begins).1)
+less_left bytes line behind begins = omega (arith, (left_after bytes line behind begins).1)
 
 pub walk_next : (old now new : State) (script bytes line : List ℕ) (behind : Option (List ℕ)) (number : ℕ) → Walk old now script (Some bytes) number → BeginsWith bytes line behind
     → WasRun now new line
     → Walk old new script behind (number + 1)
 walk_next old now new script bytes line behind number walk begins run =
-    let left = left_behind bytes line behind begins in
+    let left = left_after bytes line behind begins in
     record {
       front = walk.front ++ line ∷ [];
       split = walk.split ∙ ap (λ (l : List (List ℕ)). walk.front ++ l) left.0 ∙ sym (append_assoc walk.front (line ∷ []) (lines_left behind));
@@ -93,7 +93,7 @@ pub walk_stops : (old now : State) (script bytes line : List ℕ) (behind : Opti
 walk_stops old now script bytes line behind number walk begins = record {
   front = walk.front;
   back = lines_left behind;
-  split = walk.split ∙ ap (λ (l : List (List ℕ)). walk.front ++ l) ((left_behind bytes line behind begins).0);
+  split = walk.split ∙ ap (λ (l : List (List ℕ)). walk.front ++ l) ((left_after bytes line behind begins).0);
   number_is = omega (arith, walk.number_is);
   ops = walk.ops;
   leads = walk.leads;

@@ -32,7 +32,7 @@ use Rattle.edit_script.specs.Grammar.{lines}
 use Rattle.edit_script.specs.Laws.{AreTakenIn, ScriptsAreTakenIn}
 use Rattle.edit_script.specs.Scripts.{Does, Edits, LinesLead, by_scalars, shown_clusters, in_scalars, line_refusal, scalars_from}
 
--- behind all that is shown there is no left origin
+-- after all that is shown there is no left origin
 none_in_front : (xs : List Identifier) (at : ℕ) → length xs < at → in_front xs at ≡ None
 none_in_front xs zero past = absurd (omega (arith, past))
 none_in_front xs (suc at) past = slice_get_past xs at (omega (arith, past))

@@ -6,7 +6,7 @@ use Rattle.edit_script.specs.declared.run.ScriptFault.TheVariants.{ReadFault, To
 use Rattle.edit_script.specs.declared.script.TheConstants.{LONGEST_SCRIPT}
 use Rattle.edit_script.specs.Scripts.{RunsWhole, StopsAtLine}
 
--- the bytes decide such an answer: it is no fault of the source, and no want of memory
+-- the bytes decide such an answer: it is no fault of the source, and no allocation failure
 abbrev pub IsScriptByBytes : Result ℕ ScriptFault → Type 0
 IsScriptByBytes (Err ReadFault) = ⊥
 IsScriptByBytes (Err NoMemory) = ⊥
@@ -32,7 +32,7 @@ ScriptAnswerIs old bytes (Err NoMemory) = Unit {0}
 ScriptAnswerIs old bytes (Err TooLong) = LONGEST_SCRIPT < length bytes
 ScriptAnswerIs old bytes (Err fault) = EndsIn old bytes fault
 
--- each answer comes exactly where the bytes say so, but for a fault of the source and want of memory
+-- each answer comes exactly where the bytes say so, but for a fault of the source and an allocation failure
 abbrev pub ScriptAnswersBy : Result ℕ ScriptFault → State → List ℕ → Type 0
 ScriptAnswersBy result old bytes = IsScriptByBytes result → (answer : Result ℕ ScriptFault) → IsScriptByBytes answer
     → (result ≡ answer) ↔ ScriptAnswerIs old bytes answer

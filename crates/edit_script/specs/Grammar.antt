@@ -6,11 +6,11 @@ use Rattle.std.specs.Str.{IsUtf8, all_scalars}
 use Rattle.fugue_ids.specs.Titles.{IsTitleText}
 use Rattle.origin_model.specs.edits.Edits.{Command, Put, Cut, Add, DropSection}
 
--- the lines of a script: what stands between its LFs. Behind a last LF stands an empty line, which asks for nothing
+-- the lines of a script: what stands between its LFs. After a last LF stands an empty line, which asks for nothing
 abbrev pub lines : List ℕ → List (List ℕ)
 lines script = slice_split (λ byte. byte == 10) script
 
--- the first line of a script, and what stands behind its LF, where it has one
+-- the first line of a script, and what stands after its LF, where it has one
 abbrev pub BeginsWith : (script line : List ℕ) → Option (List ℕ) → Type 0
 BeginsWith script line None = lines script ≡ line ∷ []
 BeginsWith script line (Some behind) = (lines script ≡ line ∷ lines behind) × (length script ≡ length line + 1 + length behind)

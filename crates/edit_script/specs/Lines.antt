@@ -13,8 +13,8 @@ use Rattle.origin_model.specs.declared.edit_fault.EditFault.TheVariants as edit
 use Rattle.edit_script.specs.declared.edit.Edit.{Edit}
 use Rattle.edit_script.specs.declared.run.ScriptFault.{ScriptFault}
 use Rattle.edit_script.specs.declared.run.ScriptFault.TheVariants as script
-use Rattle.edit_script.specs.declared.run.LineFault.{LineFault}
-use Rattle.edit_script.specs.declared.run.LineFault.TheVariants as fault
+use Rattle.edit_script.specs.declared.line.LineFault.{LineFault}
+use Rattle.edit_script.specs.declared.line.LineFault.TheVariants as fault
 use Rattle.edit_script.specs.Commands.{replica_command}
 use Rattle.edit_script.specs.Grammar.{Asks, IsFaultyLine, IsNote}
 use Rattle.edit_script.specs.Scripts.{Does, Edits, IsPartlyMade, IsRefusedEdit, by_scalars, shown_clusters, line_refusal}
@@ -24,7 +24,7 @@ abbrev pub ReadsLine : List ℕ → Option Edit → Type 0
 ReadsLine line None = IsNote line
 ReadsLine line (Some edit) = Asks line (replica_command edit)
 
--- a line that was not read asks for nothing that there is, or memory was wanting
+-- a line that was not read asks for nothing that there is, or memory ran out
 abbrev pub IsUnreadable : List ℕ → LineFault → Type 0
 IsUnreadable line fault.Bad = IsFaultyLine line
 IsUnreadable line (fault.Edit f) = f ≡ edit.NoMemory

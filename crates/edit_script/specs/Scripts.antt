@@ -91,7 +91,7 @@ pub record RunsUpTo (old new : State) (script line : List ℕ) (number : ℕ) : 
 abbrev pub IsRefusedEdit : State → List ℕ → EditFault → Type 0
 IsRefusedEdit s line fault = (command : Command) × Asks line command × (line_refusal s command ≡ Some fault)
 
--- memory was wanting for a line: nothing of it was made, or the first ones of its operations
+-- memory ran out for a line: nothing of it was made, or the first ones of its operations
 abbrev pub IsPartlyMade : (old new : State) → List ℕ → Type 0
 IsPartlyMade old new line =
     (new ≡ old) ⊎ ((command : Command) × Asks line command × StopsPartly old new (made_by old (by_scalars old command)))

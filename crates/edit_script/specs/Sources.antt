@@ -7,7 +7,7 @@ use Rattle.edit_script.specs.declared.run.ScriptFault.TheVariants.{BadLine, NoSe
 use Rattle.edit_script.specs.declared.run.ScriptFault.TheVariants.{NoMemory}
 use Rattle.edit_script.specs.declared.script.TheConstants.{LONGEST_SCRIPT}
 
--- a read whose buffer is the part of this one behind `from`
+-- a read whose buffer is the part of this one after `from`
 pub record Placed {E : Type 0} (old new : List ℕ) (from : ℕ) (before after : SourceView) (result : Result ℕ E) : Type 0 where
   pub part : List ℕ
   pub long : length part ≡ length old - from

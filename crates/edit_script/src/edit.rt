@@ -21,7 +21,7 @@ pub(crate) enum Edit {
     DropSection { section: u32 },
 }
 
-/// Reads a line that asks for an edit. None is the answer where it asks for none.
+/// Reads a line that asks for an edit. Returns None where it asks for none.
 pub(crate) fn read_edit(alloc: Global, line: &str) -> Result<Option<Edit>, NoMemory>
     ensures named { IfOk result (λ found. IfSome found (λ edit. Asks line.now (replica_command edit))) }
     ensures every { (command : Command) → Asks line.now command
@@ -39,7 +39,7 @@ pub(crate) fn read_edit(alloc: Global, line: &str) -> Result<Option<Edit>, NoMem
     }
 }
 
-/// Reads what stands behind `add `.
+/// Reads what stands after `add `.
 fn read_add(alloc: Global, rest: &str) -> Result<Option<Edit>, NoMemory>
     ensures named { IfOk result
         (λ found. IfSome found (λ edit. Asks (codes "add " ++ rest.now) (replica_command edit))) }
@@ -55,7 +55,7 @@ fn read_add(alloc: Global, rest: &str) -> Result<Option<Edit>, NoMemory>
     }
 }
 
-/// Reads a title. None is the answer where the text is none.
+/// Reads a title. Returns None where the text is none.
 fn read_title(alloc: Global, text: &str) -> Result<Option<Title>, NoMemory>
     ensures title { IfOk result (λ found. IfSome found (λ title.
         (encode_utf8_all title ≡ text.now) × (all_scalars title ≡ true) × IsTitleText text.now)) }
@@ -68,7 +68,7 @@ fn read_title(alloc: Global, text: &str) -> Result<Option<Title>, NoMemory>
     }
 }
 
-/// Reads what stands behind `put `.
+/// Reads what stands after `put `.
 fn read_put(alloc: Global, rest: &str) -> Result<Option<Edit>, NoMemory>
     ensures named { IfOk result
         (λ found. IfSome found (λ edit. Asks (codes "put " ++ rest.now) (replica_command edit))) }
@@ -87,7 +87,7 @@ fn read_put(alloc: Global, rest: &str) -> Result<Option<Edit>, NoMemory>
     }
 }
 
-/// Reads what stands behind `cut `.
+/// Reads what stands after `cut `.
 fn read_cut(rest: &str) -> Option<Edit>
     ensures named { IfSome result (λ edit. Asks (codes "cut " ++ rest.now) (replica_command edit)) }
     ensures every { (command : Command) → Asks (codes "cut " ++ rest.now) command
@@ -98,7 +98,7 @@ fn read_cut(rest: &str) -> Option<Edit>
     Some(Edit::Cut { section, at, count })
 }
 
-/// Reads what stands behind `drop `.
+/// Reads what stands after `drop `.
 fn read_drop(rest: &str) -> Option<Edit>
     ensures named { IfSome result (λ edit. Asks (codes "drop " ++ rest.now) (replica_command edit)) }
     ensures every { (command : Command) → Asks (codes "drop " ++ rest.now) command
@@ -144,7 +144,7 @@ pub(crate) enum Form {
 impl Form {
     ghost use Rattle.edit_script.specs.Forms.{form_word};
 
-    /// Reads a word. None is the answer where it begins no line.
+    /// Reads a word. Returns None where it begins no line.
     pub(crate) fn read(word: &str) -> Option<Form>
         ensures word { IfSome result (λ form. word.now ≡ form_word form) }
         ensures every { (form : Form) → word.now ≡ form_word form → result ≡ Some form }

@@ -2,6 +2,8 @@
 #![tactic(auto)]
 
 mod edit;
+mod laws;
+mod line;
 mod making;
 mod number;
 mod run;
@@ -9,6 +11,7 @@ mod script;
 mod sections;
 mod text;
 
+pub use laws::{lines_ask_once, scripts_are_taken_in, scripts_run_once};
 pub use number::read_decimal;
-pub use run::{ScriptFault, lines_ask_once, run_script, scripts_are_taken_in, scripts_run_once};
+pub use run::{ScriptFault, run_script};
 pub use script::LONGEST_SCRIPT;

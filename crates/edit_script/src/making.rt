@@ -11,7 +11,7 @@ use crate::edit::Edit;
 use crate::sections::Sections;
 use replica_core::{EditFault, Replica};
 
-/// Makes an edit that a line asks for, and answers how many operations it has.
+/// Makes an edit that a line asks for, and returns how many operations it has.
 pub(crate) fn make(
     replica: &mut Replica,
     sections: &mut Sections,

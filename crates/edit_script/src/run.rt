@@ -1,19 +1,13 @@
-//! Scripts run line by line up to the first invalid line, why one stops, and theorems on scripts.
-ghost use Rattle.std.specs.Prelude.{◌≡◌, ◌≤◌, ◌==◌, length, IfOk, IfErr, IfSome, IsErrOf, position, ◌++◌, ◌⊎◌, ◌↔◌, ℕ};
-ghost use Rattle.std.specs.Prelude.{List, [], IsTrue, OnOk, codes};
-ghost use Rattle.std.specs.Option.{option_copied};
+//! Scripts run line by line up to the first invalid line, and why one stops.
+ghost use Rattle.std.specs.Prelude.{◌≡◌, ◌≤◌, length, IfOk, IfErr, IfSome, IsErrOf};
 ghost use Rattle.outer_ports.specs.Sources.{KeepsCount};
 ghost use Rattle.origin_model.specs.taking.Taking.{IsSettled};
 ghost use Rattle.edit_script.specs.declared.script.TheConstants.{LONGEST_SCRIPT};
 ghost use Rattle.edit_script.specs.Answers.{ScriptAnswersBy};
-ghost use Rattle.edit_script.specs.Grammar.{BeginsWith};
-ghost use Rattle.edit_script.specs.Lines.{fault_at, LineFails, WasRun, IsUnreadable, ReadsLine};
+ghost use Rattle.edit_script.specs.Lines.{fault_at};
 ghost use Rattle.edit_script.specs.Scripts.{ScriptRuns, RunsWhole, ScriptStops, StopsAtLine};
-ghost use Rattle.edit_script.specs.Sections.{AreShownTexts};
-ghost use Rattle.edit_script.specs.Laws.{AsksOnce, RunsOnce, ScriptsAreTakenIn};
 
-use crate::edit::{Edit, read_edit};
-use crate::making::make;
+use crate::line::{LineFault, run_line, split_line};
 use crate::script::read_script;
 use crate::sections::Sections;
 use outer_ports::Source;
@@ -46,7 +40,7 @@ pub enum ScriptFault {
     NoMemory,
 }
 
-/// Runs the script that the source has left, and answers how many operations it made.
+/// Runs the script that the source has left, and returns how many operations it made.
 pub fn run_script<S: Source>(
     alloc: Global,
     replica: &mut Replica,
@@ -86,23 +80,6 @@ fn run_lines(alloc: Global, replica: &mut Replica, script: &[u8]) -> Result<u32,
     Ok((replica.accepted().len() - before) as u32)
 }
 
-/// Splits off the first line. None is the answer where no LF ends it.
-fn split_line(script: &[u8]) -> (&[u8], Option<&[u8]>)
-    ensures { BeginsWith script.now result.0.now (option_copied result.1) }
-{
-    match line_end(script) {
-        Some(end) => (&script[..end], Some(&script[end + 1..])),
-        None => (script, None),
-    }
-}
-
-/// Where the first LF stands.
-fn line_end(script: &[u8]) -> Option<usize>
-    ensures { result ≡ position (λ byte. byte == 10) script.now }
-{
-    script.iter().position(|byte| *byte == b'\n')
-}
-
 fn at_line(fault: LineFault, number: u32) -> ScriptFault
     ensures { result ≡ fault_at number fault }
 {
@@ -113,80 +90,5 @@ fn at_line(fault: LineFault, number: u32) -> ScriptFault
         LineFault::Edit(EditFault::IdsSpent(greatest)) => ScriptFault::IdsSpent(greatest),
         LineFault::Edit(EditFault::TooMany(held)) => ScriptFault::TooMany(held),
         LineFault::Edit(EditFault::NoMemory) => ScriptFault::NoMemory,
-    }
-}
-
-/// Each line is a note line, or asks for exactly one edit, or is bad.
-pub fn lines_ask_once()
-    ensures { AsksOnce }
-{}
-
-/// From each state each script comes to its end, or to its first faulty line, and to one of these.
-pub fn scripts_run_once()
-    ensures { RunsOnce }
-{}
-
-/// What a script made on a settled replica, taken in by a copy of what that was, comes to what the script came to, and
-/// all of it is kept.
-pub fn scripts_are_taken_in()
-    ensures { ScriptsAreTakenIn }
-{}
-
-/// Why a line was not run.
-#[derive(Clone, Copy)]
-pub(crate) enum LineFault {
-    /// It is no line of a script.
-    Bad,
-    Edit(EditFault),
-}
-
-/// Runs a line.
-pub(crate) fn run_line(
-    alloc: Global,
-    replica: &mut Replica,
-    sections: &mut Sections,
-    line: &[u8],
-) -> Result<(), LineFault>
-    requires settled { IsSettled replica.old.held }
-    requires sections { AreShownTexts sections.old.indices.entries replica.old }
-    ensures runs { OnOk result (WasRun replica.old replica.new line.now) }
-    ensures fails { IfErr result (LineFails replica.old replica.new line.now) }
-    ensures settled { IsSettled replica.new.held }
-    ensures sections { OnOk result (AreShownTexts sections.new.indices.entries replica.new) }
-{
-    match read_line(alloc, line) {
-        Ok(Some(edit)) => match make(replica, sections, edit) {
-            Ok(_) => Ok(()),
-            Err(fault) => Err(LineFault::Edit(fault)),
-        },
-        Ok(None) => Ok(()),
-        Err(fault) => Err(fault),
-    }
-}
-
-/// Reads a line. None is the answer for a note line.
-fn read_line(alloc: Global, line: &[u8]) -> Result<Option<Edit>, LineFault>
-    ensures reads { IfOk result (ReadsLine line.now) }
-    ensures unreadable { IfErr result (IsUnreadable line.now) }
-{
-    let Ok(text) = str::from_utf8(line) else {
-        return Err(LineFault::Bad);
-    };
-    if is_note(text.as_bytes()) {
-        return Ok(None);
-    }
-    match read_edit(alloc, text) {
-        Ok(Some(edit)) => Ok(Some(edit)),
-        Ok(None) => Err(LineFault::Bad),
-        Err(_) => Err(LineFault::Edit(EditFault::NoMemory)),
-    }
-}
-
-fn is_note(line: &[u8]) -> bool
-    ensures { IsTrue result ↔ ((line.now ≡ []) ⊎ ((rest : List ℕ) × (line.now ≡ codes "#" ++ rest))) }
-{
-    match line {
-        [] => true,
-        [first, ..] => *first == b'#',
     }
 }

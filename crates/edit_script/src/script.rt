@@ -32,13 +32,13 @@ pub(crate) fn read_script<S: Source>(alloc: Global, source: &mut S) -> Result<Ve
     }
 }
 
-/// Fills the buffer, or as much of it as the source has bytes for, and answers how many came.
+/// Fills the buffer, or as much of it as the source has bytes for, and returns how many came.
 fn fill<S: Source>(buffer: &mut [u8], source: &mut S) -> Result<usize, Failed>
     ensures { FilledFromSource (length buffer.old) buffer.new (S.seen source.old) (S.seen source.new) result }
 {
     let mut len = 0;
     'reads: while len < buffer.len() {
-        let count = read_behind(buffer, len, source)?;
+        let count = read_after(buffer, len, source)?;
         if count == 0 {
             break;
         }
@@ -47,8 +47,8 @@ fn fill<S: Source>(buffer: &mut [u8], source: &mut S) -> Result<usize, Failed>
     Ok(len)
 }
 
-/// Puts the source's next bytes behind the first `from` of the buffer.
-fn read_behind<S: Source>(buffer: &mut [u8], from: usize, source: &mut S) -> Result<usize, Failed>
+/// Puts the source's next bytes after the first `from` of the buffer.
+fn read_after<S: Source>(buffer: &mut [u8], from: usize, source: &mut S) -> Result<usize, Failed>
     requires { from ≤ length buffer.old }
     ensures { Placed buffer.old buffer.new from (S.seen source.old) (S.seen source.new) result }
 {

@@ -88,7 +88,7 @@ impl Sections {
         }
     }
 
-    /// Puts a section back, in which the clusters gave way to a text. Where memory is wanting it is left out.
+    /// Puts a section back, in which the clusters gave way to a text. Where memory runs out it is left out.
     pub(crate) fn put_back(&mut self, passage: Passage, text: &str)
         requires { passage.at + passage.len ≤ length (chars passage.index) }
         ensures { (s : State) → AreShownTexts self.old.indices.entries s

@@ -8,7 +8,7 @@ ghost use Rattle.edit_script.specs.Grammar.{escaped_scalar};
 use fugue_ids::NoMemory;
 use std::alloc::Global;
 
-/// Reads the text of a put. None is the answer where a backslash stands before anything but an `n` or a backslash.
+/// Reads the text of a put. Returns None where a backslash stands before anything but an `n` or a backslash.
 pub(crate) fn read_text(alloc: Global, text: &str) -> Result<Option<String>, NoMemory>
     ensures named { IfOk result
         (λ found. IfSome found (λ new. text.now ≡ flat_map escaped_scalar (chars (string_bytes new)))) }

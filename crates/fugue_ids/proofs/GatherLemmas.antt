@@ -1,4 +1,4 @@
--- Gathered texts, one behind the other, and what a flush at the end leaves.
+-- Gathered texts, one after the other, and what a flush at the end leaves.
 use Rattle.std.specs.Prelude.{◌≡◌, ℕ, suc, ◌+◌, ◌<◌, List, [], ◌++◌, length, take, drop, flat_map, Result, Ok, Err, refl, ◌-◌}
 use Rattle.std.proofs.Common.{ap, sym, subst, ◌∙◌, append_assoc, arith, length-append, get_or, add-one}
 use Rattle.std.proofs.lemmas.List.{append-nil, take-append-drop}
@@ -71,7 +71,7 @@ pub flush_fails : (v w : OutView) (p q : List ℕ) → q ≡ [] → WritesBytes 
     → GathersText {T = Unit {0}} v w p q (Err (record {})) []
 flush_fails v w p q none t = record { ok = tt; err = text_stops {E = Failed} {T = Unit {0}} {S = Unit {0}} (record {}) v w p [] t; none = none }
 
--- behind a front of the piece, and room made, the array took a part more
+-- after a front of the piece, and room made, the array took a part more
 pub gathers_filled : (u v w : OutView) (p q r piece : List ℕ) (at n : ℕ) → GathersText {T = Unit {0}} u v p q (Ok tt) (take at piece)
     → GathersText {T = Unit {0}} v w q r (Ok tt) [] → GathersText {T = Unit {0}} u w p (r ++ take n (take (length piece - at) (drop at piece))) (Ok tt) (take (at + n) piece)
 gathers_filled u v w p q r piece at n s t =
@@ -81,7 +81,7 @@ gathers_filled u v w p q r piece at n s t =
     (gathers_join {T = Unit {0}} {S = Unit {0}} tt (Ok tt) u v w p q (r ++ part) (take at piece) part s
     (gathers_join {T = Unit {0}} {S = Unit {0}} tt (Ok tt) v w w q r (r ++ part) [] part t filled))
 
--- behind a front of the piece, no room was made
+-- after a front of the piece, no room was made
 pub gathers_full : (u v w : OutView) (p q r piece : List ℕ) (at : ℕ) → GathersText {T = Unit {0}} u v p q (Ok tt) (take at piece)
     → GathersText {T = Unit {0}} v w q r (Err (record {})) [] → GathersText {T = Unit {0}} u w p r (Err (record {})) piece
 gathers_full u v w p q r piece at s t =

@@ -12,7 +12,7 @@ use Rattle.fugue_ids.specs.declared.key.Key.{Key}
 use Rattle.fugue_ids.proofs.LowLemmas.{low_here, low_in, low_one, lows}
 use Rattle.fugue_ids.proofs.PartLemmas.{Around, around_low, end_held, last_found, no_last}
 use Rattle.fugue_ids.proofs.PartedLemmas.{Apart, apart_front, in_back, there}
-use Rattle.fugue_ids.proofs.PassingLemmas.{end_passes, falls_before, falls_behind, nothing_seen, or_else, seen_before, seen_behind}
+use Rattle.fugue_ids.proofs.PassingLemmas.{end_passes, falls_before, falls_after, nothing_seen, or_else, seen_before, seen_after}
 
 -- a part at one of its low elements
 pub record Halves (es : List Keyed) (k : Key) (from to : Option Identifier) (s : Identifier) : Type 0 where
@@ -20,7 +20,7 @@ pub record Halves (es : List Keyed) (k : Key) (from to : Option Identifier) (s :
   pub front_shorter : length (between from (Some s) es) < length (between from to es)
   pub back_shorter : length (between (Some s) to es) < length (between from to es)
   pub low : HoldsOrigin (low_ids k es) (Some s)
-  pub low_behind : HoldsOrigin (low_ids k (rest_of from es)) (Some s)
+  pub low_after : HoldsOrigin (low_ids k (rest_of from es)) (Some s)
   pub end_low : HoldsOrigin (low_ids k (rest_of (Some s) es)) to
 
 -- the low elements of a list with a low one in it
@@ -50,7 +50,7 @@ halves es k from to s a f t c =
       back_shorter = omega arith;
       low = subst (λ l. Contains (ids l) s) (sym (ap (lows k) r.all ∙ filter-append (is_low k) r.outside (rest_of from es)))
           (in_back (lows k r.outside) (lows k (rest_of from es)) s behind);
-      low_behind = behind;
+      low_after = behind;
       end_low = end_held es from to s r k t;
     }
 
@@ -100,11 +100,11 @@ module _ (g : Identifier → Bool) (es : List Keyed) (k : Key) (from to : Option
       abbrev back : List Identifier
       back = low_ids k (between (Some s) to es)
 
-      -- it goes on behind one that passes
-      pub search_behind : g s ≡ true → IsSearched g all es k (Some s) to (Some s)
-      search_behind passes = record {
-        falls = falls_behind g front s back (subst (Falls g) h.parted is.falls);
-        found = is.found ∙ seen_behind g part front back s seen h.parted passes;
+      -- it goes on after one that passes
+      pub search_after : g s ≡ true → IsSearched g all es k (Some s) to (Some s)
+      search_after passes = record {
+        falls = falls_after g front s back (subst (Falls g) h.parted is.falls);
+        found = is.found ∙ seen_after g part front back s seen h.parted passes;
       }
 
       -- and before one that fails

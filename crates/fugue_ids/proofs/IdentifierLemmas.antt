@@ -100,7 +100,7 @@ not_some i e = cc
 pub index_of-here : (e : Identifier) (es : List Identifier) (x : Identifier) → x ≡ e → index_of (e ∷ es) x ≡ 0
 index_of-here e es x same = rw (eq-id_eq x e same) refl
 
--- any other stands one further than behind it
+-- any other stands one further than after it
 pub index_of-there : (e : Identifier) (es : List Identifier) (x : Identifier) → x ≢ e → index_of (e ∷ es) x ≡ suc (index_of es x)
 index_of-there e es x other = rw (ne-id_eq x e other) (omega arith)
 

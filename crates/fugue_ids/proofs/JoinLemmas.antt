@@ -1,4 +1,4 @@
--- Texts that go out one behind the other.
+-- Texts that go out one after the other.
 use Rattle.std.specs.Prelude.{◌≡◌, ℕ, zero, suc, ◌+◌, ◌-◌, ◌<◌, ◌≤◌, List, [], ◌∷◌, ◌++◌, length, take, drop, flat_map, Option, Some, None, Result, Ok, Err, IfSome, IsSome, refl}
 use Rattle.std.proofs.Common.{ap, sym, subst, ◌∙◌, append_assoc, arith, length-append, length-drop, get_or, add-one}
 use Rattle.std.proofs.lemmas.List.{append-nil, take-append-le, take_all, take-append-drop, length-take-le}
@@ -48,8 +48,8 @@ front_longer u v a b t = record {
   took = subst (Took u v) (sym (take-append-le t.count a b t.within)) t.took;
 }
 
-front_behind : (u v w : OutView) (a b : List ℕ) → Took u v a → TookFront v w b → TookFront u w (a ++ b)
-front_behind u v w a b s t = record {
+front_after : (u v w : OutView) (a b : List ℕ) → Took u v a → TookFront v w b → TookFront u w (a ++ b)
+front_after u v w a b s t = record {
   count = length a + t.count;
   within = omega (arith, t.within, length-append a b);
   took = subst (Took u w) (sym (take-append-add a b t.count)) (took_joins u v w a (take t.count b) s t.took);
@@ -104,14 +104,14 @@ text_joins {E} {T} {S} x (Ok y) u v w a b s t = record {
 }
 text_joins {E} {T} {S} x (Err e) u v w a b s t = record {
   ok = tt;
-  err = front_behind u v w a b s.ok t.err;
+  err = front_after u v w a b s.ok t.err;
   cause = record { later = omega (arith, s.cause.later, t.cause.later); failed = omega (arith, s.cause.later, t.cause.failed) };
   sure = subst (λ n. IfSome u.room (λ r. IsSure {E = E} {T = S} r n u.faults w.faults (Err e))) (sym (length-append a b))
       (sure_joins {E = E} {T = T} {S = S} x (Err e) u.room v.room (length a) (length b) u.faults v.faults w.faults s.ok.room s.sure t.sure);
   specified_no_fault = λ tells. tt;
 }
 
--- what `&piece[at..]` is, behind what is before it
+-- what `&piece[at..]` is, after what is before it
 take_front_rest : (at : ℕ) (piece : List ℕ) → take at piece ++ take (length piece - at) (drop at piece) ≡ piece
 take_front_rest at piece = ap (λ (t : List ℕ). take at piece ++ t) (take_all (length piece - at) (drop at piece) (omega (arith, length-drop at piece))) ∙ take-append-drop at piece
 
@@ -192,7 +192,7 @@ parts_grow {X} {E} {T} {S} f xs i d y x u v w below s t =
     subst (WritesBytes {E = E} {T = S} u w (Ok y)) (sym (ap (λ (k : ℕ). flat_map f (take k xs)) (add-one i) ∙ parts_step f xs i d below))
     (text_joins {E = E} {T = T} {S = S} x (Ok y) u v w (flat_map f (take i xs)) (f (get_or xs i d)) s t)
 
--- one call more, behind a front of the piece that went out
+-- one call more, after a front of the piece that went out
 pub call_grows : {E T : Type 0} (x : T) (u v w : OutView) (piece : List ℕ) (at n : ℕ)
     → WritesBytes {E = E} {T = T} u v (Ok x) (take at piece) → WritesSome {E = E} v w (Ok n) (take (length piece - at) (drop at piece))
     → WritesBytes {E = E} {T = T} u w (Ok x) (take (at + n) piece)
@@ -201,7 +201,7 @@ call_grows {E} {T} x u v w piece at n s t =
     (text_joins {E = E} {T = T} {S = T} x (Ok x) u v w (take at piece) (take n (take (length piece - at) (drop at piece))) s
     (call_wrote {E = E} {T = T} x v w (take (length piece - at) (drop at piece)) n t))
 
--- a call that failed, behind a front of the piece that went out
+-- a call that failed, after a front of the piece that went out
 pub call_stops : {E T S : Type 0} (x : T) (e : E) (u v w : OutView) (piece : List ℕ) (at : ℕ) → at < length piece
     → WritesBytes {E = E} {T = T} u v (Ok x) (take at piece) → WritesSome {E = E} v w (Err e) (take (length piece - at) (drop at piece))
     → WritesBytes {E = E} {T = S} u w (Err e) piece

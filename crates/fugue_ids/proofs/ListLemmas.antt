@@ -70,8 +70,8 @@ module _ {X : Type 0} where
   pub all_before : (P : X → Type 0) (xs ys : List X) → All P (xs ++ ys) → All P xs
   all_before P xs ys all = all_from_contains P xs (λ x c. All-contains P (xs ++ ys) x all (Contains-append_left xs ys x c))
 
-  pub all_behind : (P : X → Type 0) (xs ys : List X) → All P (xs ++ ys) → All P ys
-  all_behind P xs ys all = all_from_contains P ys (λ x c. All-contains P (xs ++ ys) x all (Contains-append_right xs ys x c))
+  pub all_after : (P : X → Type 0) (xs ys : List X) → All P (xs ++ ys) → All P ys
+  all_after P xs ys all = all_from_contains P ys (λ x c. All-contains P (xs ++ ys) x all (Contains-append_right xs ys x c))
 
   pub all_insert : (P : X → Type 0) (xs : List X) (i : ℕ) (x : X) → P x → All P xs → All P (insert xs i x)
   all_insert P xs i x p all = all_from_contains P (insert xs i x) (λ y c. elim (contains_insert_cases xs i x y c) [
@@ -104,21 +104,21 @@ module _ {X : Type 0} where
   all_pairs_before R (x ∷ xs) ys pairs =
       AllPairs-cons R x xs (all_before (R x) xs ys (all_pairs_head R x (xs ++ ys) pairs)) (all_pairs_before R xs ys (all_pairs_tail R x (xs ++ ys) pairs))
 
-  pub all_pairs_behind : (R : X → X → Type 0) (xs ys : List X) → AllPairs R (xs ++ ys) → AllPairs R ys
-  all_pairs_behind R [] ys pairs = pairs
-  all_pairs_behind R (x ∷ xs) ys pairs = all_pairs_behind R xs ys (all_pairs_tail R x (xs ++ ys) pairs)
+  pub all_pairs_after : (R : X → X → Type 0) (xs ys : List X) → AllPairs R (xs ++ ys) → AllPairs R ys
+  all_pairs_after R [] ys pairs = pairs
+  all_pairs_after R (x ∷ xs) ys pairs = all_pairs_after R xs ys (all_pairs_tail R x (xs ++ ys) pairs)
 
-  -- each of the front and each behind it
+  -- each of the front and each after it
   pub all_pairs_across : (R : X → X → Type 0) (xs ys : List X) → AllPairs R (xs ++ ys) → All (λ x. All (R x) ys) xs
   all_pairs_across R [] ys pairs = All-nil (λ x. All (R x) ys)
   all_pairs_across R (x ∷ xs) ys pairs =
-      All-cons (λ y. All (R y) ys) x xs (all_behind (R x) xs ys (all_pairs_head R x (xs ++ ys) pairs)) (all_pairs_across R xs ys (all_pairs_tail R x (xs ++ ys) pairs))
+      All-cons (λ y. All (R y) ys) x xs (all_after (R x) xs ys (all_pairs_head R x (xs ++ ys) pairs)) (all_pairs_across R xs ys (all_pairs_tail R x (xs ++ ys) pairs))
 
   -- another between two parts
   pub all_pairs_middle : (R : X → X → Type 0) (xs : List X) (x : X) (ys : List X) → AllPairs R (xs ++ ys) → All (λ y. R y x) xs → All (R x) ys
       → AllPairs R (xs ++ x ∷ ys)
   all_pairs_middle R xs x ys pairs before behind =
-      all_pairs_append R xs (x ∷ ys) (all_pairs_before R xs ys pairs) (AllPairs-cons R x ys behind (all_pairs_behind R xs ys pairs))
+      all_pairs_append R xs (x ∷ ys) (all_pairs_before R xs ys pairs) (AllPairs-cons R x ys behind (all_pairs_after R xs ys pairs))
       (all_from_contains (λ y. All (R y) (x ∷ ys)) xs (λ y c.
       All-cons (R y) x ys (All-contains (λ z. R z x) xs y before c) (All-contains (λ z. All (R z) ys) xs y (all_pairs_across R xs ys pairs) c)))
 

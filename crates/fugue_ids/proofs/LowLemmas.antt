@@ -11,7 +11,7 @@ use Rattle.fugue_ids.specs.Listed.{HoldsOrigin}
 use Rattle.fugue_ids.specs.declared.key.Key.{Key}
 use Rattle.fugue_ids.proofs.IdentifierLemmas.{origin_eq-refl}
 use Rattle.fugue_ids.proofs.ListLemmas.{contains_cases, contains_here, contains_none, contains_there}
-use Rattle.fugue_ids.proofs.PartedLemmas.{Apart, BeginsWith, EndsWith, apart_back, apart_first, apart_front, apart_rest, first_held, front_three, in_three, last_behind, last_ends}
+use Rattle.fugue_ids.proofs.PartedLemmas.{Apart, BeginsWith, EndsWith, apart_back, apart_first, apart_front, apart_rest, first_held, front_three, in_three, last_after, last_ends}
 use Rattle.fugue_ids.proofs.PartedLemmas.{last_some, mid_three, not_first, not_last, rest_three, there, to_held}
 
 -- elements of keys up to k
@@ -82,7 +82,7 @@ module _ (k : Key) where
       low_here more e bs (subst Apart whole a) (subst (λ z. Contains (ids (lows (more ++ e ∷ bs))) z) (sym same) (subst (λ l. Contains (ids (lows l)) y) whole c)) in
       (e, lows bs, ap lows is ∙ low_one e bs t, same)
 
-  -- what the last low one is, where the search may end at the element that the part begins behind
+  -- what the last low one is, where the search may end at the element that the part begins after
   pub last_in : (es : List Keyed) (from to v : Option Identifier) → Apart es → HoldsOrigin (ids (lows es)) from → HoldsOrigin (ids (rest_of from es)) to
       → v ≡ last_low k (front_of to es) → (if origin_eq v from then None else v) ≡ last_low k (between from to es)
   last_in es from to v a f t e =
@@ -100,7 +100,7 @@ module _ (k : Key) where
           ap (λ b. if b then None else v) (ap (λ z. origin_eq v z) (sym same) ∙ origin_eq-refl v) ∙ sym (ap last_id is)
       chosen front mid a from v ends own (y ∷ ys) is e =
           let s = last_some y ys in
-          let here : v ≡ Some s.0 = e ∙ ap (λ l. last_id (lows front ++ l)) is ∙ last_behind (lows front) y ys ∙ s.1 in
+          let here : v ≡ Some s.0 = e ∙ ap (λ l. last_id (lows front ++ l)) is ∙ last_after (lows front) y ys ∙ s.1 in
           let member : Contains (ids mid) s.0 = low_in mid s.0 (subst (λ l. Contains (ids l) s.0) (sym is) s.2) in
           ap (λ b. if b then None else v) (ap (λ z. origin_eq z from) here ∙ not_last front mid a from s.0 own member) ∙ here ∙ sym (ap last_id is ∙ s.1)
 

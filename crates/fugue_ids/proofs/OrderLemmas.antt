@@ -51,7 +51,7 @@ equal_by a b Greater h e = absurd (cc e)
 pub id_cmp-IsAntisymmetric : IsAntisymmetric id_cmp
 id_cmp-IsAntisymmetric a b e = equal_by a b (id_cmp a b) (id_ranks a b) e
 
--- what does not stand behind another stands before it, or is the same
+-- what does not stand after another stands before it, or is the same
 pub at_most_cases : (a b : Identifier) → IsAtMost a b → IsBefore a b ⊎ (a ≡ b)
 at_most_cases a b (inl h) = inl (inl h)
 at_most_cases a b (inr h) = elim (cases_lt a.counter b.counter) as (λ _. IsBefore a b ⊎ (a ≡ b)) [

@@ -45,7 +45,7 @@ around es from to m a f t c =
     let whole : es ≡ (p.front ++ q.front) ++ q.here ∷ more =
     p.whole ∙ ap (λ l. p.front ++ (l ++ p.back)) q.whole ∙ ap (λ l. p.front ++ l) (append_assoc q.front (q.here ∷ q.back) p.back)
     ∙ sym (append_assoc p.front q.front (q.here ∷ more)) in
-    let behind_m : rest_of (Some m) es ≡ more =
+    let after_m : rest_of (Some m) es ≡ more =
     ap (λ z. rest_of (Some z) es) (sym q.is) ∙ ap (rest_of (Some q.here.id)) whole
     ∙ rest_at (p.front ++ q.front) more q.here (others (p.front ++ q.front) more q.here (subst Apart whole a)) in
     record {
@@ -54,18 +54,18 @@ around es from to m a f t c =
       back = q.back;
       is = q.is;
       whole = mid ∙ q.whole;
-      rest = rest ∙ ap (λ l. q.front ++ q.here ∷ l) (sym behind_m);
+      rest = rest ∙ ap (λ l. q.front ++ q.here ∷ l) (sym after_m);
       apart = apart;
       outside = p.front;
       all = p.whole ∙ ap (λ l. p.front ++ l) (sym (rest_three es from to a p));
       after = p.back;
-      more = behind_m;
+      more = after_m;
       begins = p.begins;
       before = front_is (rest_of from es) (Some m) q.front (q.here ∷ more) apart rest (q.here, more, refl, q.is);
       up_to = front_is (rest_of from es) (first_id (rest_of (Some m) es)) (q.front ++ q.here ∷ []) more apart
-          (rest ∙ sym (append_assoc q.front (q.here ∷ []) more)) (subst (λ o. BeginsWith o more) (ap first_id (sym behind_m)) (first_begins more));
+          (rest ∙ sym (append_assoc q.front (q.here ∷ []) more)) (subst (λ o. BeginsWith o more) (ap first_id (sym after_m)) (first_begins more));
       behind = front_is (rest_of (Some m) es) to q.back p.back
-          (subst Apart (sym behind_m) (apart_back (q.here ∷ []) more (apart_back (p.front ++ q.front) (q.here ∷ more) (subst Apart whole a)))) behind_m p.begins;
+          (subst Apart (sym after_m) (apart_back (q.here ∷ []) more (apart_back (p.front ++ q.front) (q.here ∷ more) (subst Apart whole a)))) after_m p.begins;
     }
 
 -- what a list begins with, it holds
@@ -105,7 +105,7 @@ has_here (f ∷ fs) e bs k apart has =
 
 -- with an element in the part
 module _ (es : List Keyed) (from to : Option Identifier) (m : Identifier) (r : Around es from to m) where
-  -- the element behind it stands behind the beginning
+  -- the element after it stands after the beginning
   pub next_held : HoldsOrigin (ids (rest_of from es)) (first_id (rest_of (Some m) es))
   next_held =
       subst (λ l. HoldsOrigin (ids l) (first_id (rest_of (Some m) es))) (sym (r.rest ∙ sym (append_assoc r.front (r.here ∷ []) (rest_of (Some m) es))))
@@ -156,10 +156,10 @@ module _ (es : List Keyed) (from to : Option Identifier) (m : Identifier) (r : A
         let last : last_id (lows k up_to) ≡ Some s = sym (ap (last_low k) (ap (λ o. between from o es) is ∙ r.up_to)) ∙ e in
         subst (λ l. Contains (ids l) s) (sym both) (in_front (lows k up_to) (lows k r.back) s (last_found (lows k up_to) s last))
 
-    -- where there is none, the first low one behind the element is the first of the part
-    pub found_behind : (o next : Option Identifier) → next ≡ first_id (rest_of (Some m) es) → last_low k (between from next es) ≡ None → o ≡ first_low k (between (Some m) to es)
+    -- where there is none, the first low one after the element is the first of the part
+    pub found_after : (o next : Option Identifier) → next ≡ first_id (rest_of (Some m) es) → last_low k (between from next es) ≡ None → o ≡ first_low k (between (Some m) to es)
         → (IsNone o ↔ (ids (lows k (between from to es)) ≡ [])) × IfSome o (Contains (ids (lows k (between from to es))))
-    found_behind o next is n e =
+    found_after o next is n e =
         let front : lows k up_to ≡ [] = no_last (lows k up_to) (sym (ap (last_low k) (ap (λ o. between from o es) is ∙ r.up_to)) ∙ n) in
         let rest : lows k (between from to es) ≡ lows k r.back = both ∙ ap (λ l. l ++ lows k r.back) front in
         subst (λ l. (IsNone o ↔ (ids l ≡ [])) × IfSome o (Contains (ids l))) (sym rest) (first_of (lows k r.back) o (e ∙ ap (first_low k) r.behind))

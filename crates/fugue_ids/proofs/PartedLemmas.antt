@@ -9,9 +9,9 @@ use Rattle.fugue_ids.specs.Identifiers.{Identifier, id_eq, origin_eq}
 use Rattle.fugue_ids.specs.Keys.{Keyed, between, first_id, front_of, ids, last_id, rest_of}
 use Rattle.fugue_ids.specs.Listed.{HoldsOrigin}
 use Rattle.fugue_ids.proofs.IdentifierLemmas.{eq-id_eq, ne-id_eq}
-use Rattle.fugue_ids.proofs.ListLemmas.{all_pairs_before, all_pairs_behind, all_pairs_head, all_pairs_tail, contains_cases, contains_here, contains_none, contains_there}
+use Rattle.fugue_ids.proofs.ListLemmas.{all_pairs_before, all_pairs_after, all_pairs_head, all_pairs_tail, contains_cases, contains_here, contains_none, contains_there}
 
--- what stands behind an element that is in the list once
+-- what stands after an element that is in the list once
 pub rest_at : (front back : List Keyed) (e : Keyed) → All (λ z. z.id ≢ e.id) front → rest_of (Some e.id) (front ++ e ∷ back) ≡ back
 rest_at [] back e f = ap (λ b. if b then back else rest_of (Some e.id) back) (eq-id_eq e.id e.id refl)
 rest_at (a ∷ front) back e f =
@@ -29,11 +29,11 @@ front_at (a ∷ front) back e f =
 abbrev pub Apart : List Keyed → Type 0
 Apart es = AllPairs (λ x y. x ≢ y) (ids es)
 
--- the first element is none of those behind it
+-- the first element is none of those after it
 pub apart_first : (e : Keyed) (es : List Keyed) (x : Identifier) → Apart (e ∷ es) → Contains (ids es) x → e.id ≢ x
 apart_first e es x a c = All-contains (λ y. e.id ≢ y) (ids es) x (all_pairs_head (λ x y. x ≢ y) e.id (ids es) a) c
 
--- those behind it are distinct
+-- those after it are distinct
 pub apart_rest : (e : Keyed) (es : List Keyed) → Apart (e ∷ es) → Apart es
 apart_rest e es a = all_pairs_tail (λ x y. x ≢ y) e.id (ids es) a
 
@@ -74,7 +74,7 @@ abbrev pub BeginsWith : Option Identifier → List Keyed → Type 0
 BeginsWith None es = es ≡ []
 BeginsWith (Some x) es = (e : Keyed) × (bs : List Keyed) × (es ≡ e ∷ bs) × (e.id ≡ x)
 
--- the list in three: the part between the two elements, and what stands before and behind it
+-- the list in three: the part between the two elements, and what stands before and after it
 pub record InThree (es : List Keyed) (from to : Option Identifier) : Type 0 where
   pub front : List Keyed
   pub mid : List Keyed
@@ -83,7 +83,7 @@ pub record InThree (es : List Keyed) (from to : Option Identifier) : Type 0 wher
   pub ends : EndsWith from front
   pub begins : BeginsWith to back
 
--- a list whose front ends with an element, and what stands behind that
+-- a list whose front ends with an element, and what stands after that
 rest_is : (es : List Keyed) (from : Option Identifier) (front more : List Keyed) → Apart es → es ≡ front ++ more → EndsWith from front → rest_of from es ≡ more
 rest_is es None front more a w e = w ∙ ap (λ f. f ++ more) e
 rest_is es (Some x) front more a w (fs, e, is, same) =
@@ -111,7 +111,7 @@ pub apart_front : (xs ys : List Keyed) → Apart (xs ++ ys) → Apart xs
 apart_front xs ys a = all_pairs_before (λ x y. x ≢ y) (ids xs) (ids ys) (subst (AllPairs (λ x y. x ≢ y)) (map-append (λ z. z.id) xs ys) a)
 
 pub apart_back : (xs ys : List Keyed) → Apart (xs ++ ys) → Apart ys
-apart_back xs ys a = all_pairs_behind (λ x y. x ≢ y) (ids xs) (ids ys) (subst (AllPairs (λ x y. x ≢ y)) (map-append (λ z. z.id) xs ys) a)
+apart_back xs ys a = all_pairs_after (λ x y. x ≢ y) (ids xs) (ids ys) (subst (AllPairs (λ x y. x ≢ y)) (map-append (λ z. z.id) xs ys) a)
 
 -- members of parts are members
 pub in_front : (xs ys : List Keyed) (x : Identifier) → Contains (ids xs) x → Contains (ids (xs ++ ys)) x
@@ -120,16 +120,16 @@ in_front xs ys x c = subst (λ l. Contains l x) (sym (map-append (λ z. z.id) xs
 pub in_back : (xs ys : List Keyed) (x : Identifier) → Contains (ids ys) x → Contains (ids (xs ++ ys)) x
 in_back xs ys x c = subst (λ l. Contains l x) (sym (map-append (λ z. z.id) xs ys)) (Contains-append_right (ids xs) (ids ys) x c)
 
--- the list in two, behind an origin
+-- the list in two, after an origin
 record Behind (es : List Keyed) (from : Option Identifier) : Type 0 where
   pub front : List Keyed
   pub more : List Keyed
   pub whole : es ≡ front ++ more
   pub ends : EndsWith from front
 
-behind_at : (es : List Keyed) (from : Option Identifier) → HoldsOrigin (ids es) from → Behind es from
-behind_at es None c = record { front = []; more = es; whole = refl; ends = refl }
-behind_at es (Some x) c =
+after_at : (es : List Keyed) (from : Option Identifier) → HoldsOrigin (ids es) from → Behind es from
+after_at es None c = record { front = []; more = es; whole = refl; ends = refl }
+after_at es (Some x) c =
     let r = part_at es x c in
     record { front = r.front ++ r.here ∷ []; more = r.back; whole = r.whole ∙ sym (append_assoc r.front (r.here ∷ []) r.back); ends = (r.front, r.here, refl, r.is) }
 
@@ -149,7 +149,7 @@ before_at es (Some y) c =
 -- the list in three
 pub in_three : (es : List Keyed) (from to : Option Identifier) → Apart es → HoldsOrigin (ids es) from → HoldsOrigin (ids (rest_of from es)) to → InThree es from to
 in_three es from to a f t =
-    let b = behind_at es from f in
+    let b = after_at es from f in
     let r : rest_of from es ≡ b.more = rest_is es from b.front b.more a b.whole b.ends in
     let d = before_at b.more to (subst (λ l. HoldsOrigin (ids l) to) r t) in
     record {
@@ -165,7 +165,7 @@ in_three es from to a f t =
 pub front_three : (es : List Keyed) (from to : Option Identifier) (a : Apart es) (p : InThree es from to) → front_of to es ≡ p.front ++ p.mid
 front_three es from to a p = front_is es to (p.front ++ p.mid) p.back a (p.whole ∙ sym (append_assoc p.front p.mid p.back)) p.begins
 
--- what stands behind the first element
+-- what stands after the first element
 pub rest_three : (es : List Keyed) (from to : Option Identifier) (a : Apart es) (p : InThree es from to) → rest_of from es ≡ p.mid ++ p.back
 rest_three es from to a p = rest_is es from p.front (p.mid ++ p.back) a p.whole p.ends
 
@@ -186,17 +186,17 @@ first_held [] = tt
 first_held (e ∷ es) = contains_here e.id (ids es)
 
 -- the last of two parts is that of the second, where that has any
-pub last_behind : (xs : List Keyed) (y : Keyed) (ys : List Keyed) → last_id (xs ++ y ∷ ys) ≡ last_id (y ∷ ys)
-last_behind [] y ys = refl
-last_behind (x ∷ []) y ys = refl
-last_behind (x ∷ z ∷ xs) y ys = last_behind (z ∷ xs) y ys
+pub last_after : (xs : List Keyed) (y : Keyed) (ys : List Keyed) → last_id (xs ++ y ∷ ys) ≡ last_id (y ∷ ys)
+last_after [] y ys = refl
+last_after (x ∷ []) y ys = refl
+last_after (x ∷ z ∷ xs) y ys = last_after (z ∷ xs) y ys
 
 pub last_tail : (xs ys : List Keyed) (y : Identifier) → last_id ys ≡ Some y → last_id (xs ++ ys) ≡ Some y
 last_tail xs [] y e = cc
-last_tail xs (z ∷ zs) y e = last_behind xs z zs ∙ e
+last_tail xs (z ∷ zs) y e = last_after xs z zs ∙ e
 
 pub last_push : (es : List Keyed) (e : Keyed) → last_id (es ++ e ∷ []) ≡ Some e.id
-last_push es e = last_behind es e []
+last_push es e = last_after es e []
 
 -- the first of two parts is that of the first, where that has any
 pub first_front : (xs ys : List Keyed) (y : Identifier) → first_id xs ≡ Some y → first_id (xs ++ ys) ≡ Some y
@@ -213,7 +213,7 @@ pub last_some : (y : Keyed) (ys : List Keyed) → (z : Identifier) × (last_id (
 last_some y [] = (y.id, refl, contains_here y.id [])
 last_some y (z ∷ zs) = let r = last_some z zs in (r.0, r.1, contains_there y.id (ids (z ∷ zs)) r.0 r.2)
 
--- an element behind the front is not the one that the front ends with
+-- an element after the front is not the one that the front ends with
 pub not_last : (front mid : List Keyed) → Apart (front ++ mid) → (from : Option Identifier) (z : Identifier) → EndsWith from front → Contains (ids mid) z
     → origin_eq (Some z) from ≡ false
 not_last front mid a None z e c = refl
@@ -227,7 +227,7 @@ not_first mid back a None z e c = refl
 not_first mid back a (Some y) z (e, bs, is, same) c =
     ne-id_eq z y (λ d. apart_across mid back z a c (subst (λ l. Contains (ids l) z) (sym is) (subst (Contains (ids (e ∷ bs))) (same ∙ sym d) (contains_here e.id (ids bs)))))
 
--- what stands behind an origin is held
+-- what stands after an origin is held
 rest_held : (x : Identifier) (es : List Keyed) (y : Identifier) → Contains (ids (rest_of (Some x) es)) y → Contains (ids es) y
 rest_held x [] y c = c
 rest_held x (e ∷ es) y c =

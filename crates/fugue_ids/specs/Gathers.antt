@@ -12,7 +12,7 @@ pub record Gathered (old new : OutView) (waiting text : List ℕ) : Type 0 where
   pub text_is : gone ++ waiting ≡ text
   pub wrote : WritesBytes {E = Failed} {T = Unit {0}} old new (Ok tt) gone
 
--- one text more: it comes behind what waited, or an error leaves a front of both written and nothing waiting
+-- one text more: it comes after what waited, or an error leaves a front of both written and nothing waiting
 pub record GathersText {T : Type 0} (old new : OutView) (before after : List ℕ) (result : Result T Failed) (text : List ℕ) : Type 0 where
   pub ok : OnOk result (Gathered old new after (before ++ text))
   pub err : OnErr result (WritesBytes old new result (before ++ text))

@@ -23,7 +23,7 @@ id_lt a b = nat_lt a.replica b.replica || (nat_eq a.replica b.replica && nat_lt 
 abbrev pub id_cmp : Identifier → Identifier → Ordering
 id_cmp a b = ordering_then (nat_cmp a.replica b.replica) (nat_cmp a.counter b.counter)
 
--- a does not stand behind b
+-- a does not stand after b
 abbrev pub IsAtMost : Identifier → Identifier → Type 0
 IsAtMost a b = (a.replica < b.replica) ⊎ ((a.replica ≡ b.replica) × (a.counter ≤ b.counter))
 

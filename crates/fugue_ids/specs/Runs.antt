@@ -5,20 +5,20 @@ use Rattle.fugue_ids.specs.declared.op.Op.{Op}
 use Rattle.fugue_ids.specs.declared.op.Op.TheVariants.{Section, Text, Delete, Note}
 use Rattle.fugue_ids.specs.declared.run.RunStart.{RunStart}
 
--- the identifier so many behind this one
-abbrev pub id_behind : Identifier → ℕ → Identifier
-id_behind id n = record { replica = id.replica; counter = id.counter + n }
+-- the identifier so many after this one
+abbrev pub id_after : Identifier → ℕ → Identifier
+id_after id n = record { replica = id.replica; counter = id.counter + n }
 
 -- the identifier that its replica gives next
 abbrev pub next_id : Identifier → Identifier
 next_id id = record { replica = id.replica; counter = id.counter + 1 }
 
--- the left origin of the Text so many behind the first: the identifier of the one before it
-abbrev pub left_behind : Option Identifier → Identifier → ℕ → Option Identifier
-left_behind left id zero = left
-left_behind left id (suc n) = Some (id_behind id n)
+-- the left origin of the Text so many after the first: the identifier of the one before it
+abbrev pub left_after : Option Identifier → Identifier → ℕ → Option Identifier
+left_after left id zero = left
+left_after left id (suc n) = Some (id_after id n)
 
--- one Text for each scalar: each has the next identifier, and stands behind the one before
+-- one Text for each scalar: each has the next identifier, and stands after the one before
 abbrev pub in_a_row : (id section : Identifier) (left right : Option Identifier) → List ℕ → List Op
 in_a_row id section left right [] = []
 in_a_row id section left right (ch ∷ text) = Text id section left right ch ∷ in_a_row (next_id id) section (Some id) right text
@@ -32,12 +32,12 @@ ids_in_a_row id (ch ∷ text) = id ∷ ids_in_a_row (next_id id) text
 abbrev pub run_from : RunStart → List ℕ → List Op
 run_from start text = in_a_row start.id start.section start.left start.right text
 
--- what the Text says that stands so many behind the first
-abbrev pub start_behind : RunStart → ℕ → RunStart
-start_behind start n = record {
-  id = id_behind start.id n;
+-- what the Text says that stands so many after the first
+abbrev pub start_after : RunStart → ℕ → RunStart
+start_after start n = record {
+  id = id_after start.id n;
   section = start.section;
-  left = left_behind start.left start.id n;
+  left = left_after start.left start.id n;
   right = start.right;
 }
 

@@ -1,3 +1,5 @@
+//! The body of a note: bytes, of which there are at most `LONGEST_BODY`.
+
 ghost use Rattle.std.specs.Prelude.{◌≡◌, ◌↔◌, ◌<◌, ◌≤◌, length, IfOk};
 
 use crate::{LONGEST_BODY, NoMemory};

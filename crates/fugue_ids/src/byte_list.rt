@@ -1,3 +1,5 @@
+//! A list of bytes that only its contents describe.
+
 ghost use Rattle.std.specs.Prelude.{◌≡◌};
 
 use std::marker::Model;

@@ -1,7 +1,9 @@
+//! The identifier of an element: a replica and a counter of that replica, in a total order.
+
 ghost use Rattle.std.specs.Prelude.{◌≡◌, ◌↔◌, ◌+◌, ◌<◌, ◌^◌, IsNone, IfSome, Some};
 ghost use Rattle.std.specs.Ordering.{is_lt};
 ghost use Rattle.fugue_ids.specs.Identifiers.{Identifier, id_cmp, id_eq, id_lt};
-ghost use Rattle.fugue_ids.specs.Runs.{id_behind};
+ghost use Rattle.fugue_ids.specs.Runs.{id_after};
 
 use std::marker::Model;
 
@@ -28,7 +30,7 @@ impl Model for ElementId {
 }
 
 impl ElementId {
-    /// None is the answer for replica 0.
+    /// Returns None for replica 0.
     pub fn new(replica: u32, counter: u32) -> Option<ElementId>
         ensures none { IsNone result ↔ (replica ≡ 0) }
         ensures some { IfSome result (λ id. (id.replica ≡ replica) × (id.counter ≡ counter)) }
@@ -39,10 +41,10 @@ impl ElementId {
         Some(ElementId { replica, counter })
     }
 
-    /// The identifier so many behind this one, of the same replica.
+    /// The identifier so many after this one, of the same replica.
     pub fn behind(self, count: u32) -> ElementId
         requires { self.counter + count < 2 ^ 32 }
-        ensures { result ≡ id_behind self count }
+        ensures { result ≡ id_after self count }
     {
         ElementId {
             replica: self.replica,

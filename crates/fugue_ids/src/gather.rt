@@ -1,3 +1,5 @@
+//! A buffer of bytes before an output, so that short pieces are written together.
+
 ghost use Rattle.std.specs.Prelude.{◌≡◌, ◌<◌, ◌≤◌, ◌+◌, [], ◌∷◌, ◌++◌, codes, flat_map, length, take, OnOk};
 ghost use Rattle.std.specs.Char.{encode_utf8};
 ghost use Rattle.fugue_ids.specs.Gathers.{GathersText};
@@ -72,7 +74,7 @@ impl Gather {
         self.flush(out)
     }
 
-    /// Puts the bytes behind what waits, and writes the array where it is full and more is to come.
+    /// Puts the bytes after what waits, and writes the array where it is full and more is to come.
     pub fn put<O: Out>(&mut self, out: &mut O, bytes: &[u8]) -> Result<(), Failed>
         ensures { GathersText (O.seen out.old) (O.seen out.new) self.old self.new result bytes.now }
     {
@@ -84,7 +86,7 @@ impl Gather {
         Ok(())
     }
 
-    /// Puts the pieces, one behind the other.
+    /// Puts the pieces, one after the other.
     pub fn put_pieces<O: Out>(&mut self, out: &mut O, pieces: &[&[u8]]) -> Result<(), Failed>
         ensures { GathersText (O.seen out.old) (O.seen out.new) self.old self.new result
             (flat_map (λ piece. piece.now) pieces.now) }

@@ -1,3 +1,5 @@
+//! An element's key in the FugueMax tree, and the gaps and sides at which a new element goes.
+
 use crate::ElementId;
 
 /// A gap of a list of elements, into which a new one goes.
@@ -7,7 +9,7 @@ pub enum Gap {
     Alone,
     /// Directly before this element.
     Before(ElementId),
-    /// Directly behind this element.
+    /// Directly after this element.
     After(ElementId),
 }
 

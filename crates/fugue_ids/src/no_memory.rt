@@ -1,6 +1,8 @@
+//! The error of an allocation that failed.
+
 use std::alloc::{AllocError, AllocFailed};
 
-/// Want of memory. Nothing was changed, except where a call says what stands.
+/// An allocation failure. Nothing was changed, except where a call says what stands.
 #[derive(Clone, Copy, Debug, PartialEq, Eq)]
 pub struct NoMemory;
 

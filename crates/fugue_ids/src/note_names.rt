@@ -1,3 +1,5 @@
+//! The identifiers that a note names, of which there are at most `MOST_NAMES`.
+
 ghost use Rattle.std.specs.Prelude.{◌≡◌, ◌↔◌, ◌<◌, ◌≤◌, length, IsNone, IfSome};
 
 use crate::{ElementId, MOST_NAMES};
@@ -29,7 +31,7 @@ impl Model for NoteNames {
 }
 
 impl NoteNames {
-    /// None is the answer for more than three identifiers.
+    /// Returns None for more than three identifiers.
     pub fn read(ids: &[ElementId]) -> Option<NoteNames>
         ensures none { IsNone result ↔ (MOST_NAMES < length ids.now) }
         ensures some { IfSome result (λ names. names ≡ ids.now) }

@@ -1,3 +1,5 @@
+//! The operations that authors exchange, with their keys and identifiers.
+
 ghost use Rattle.std.specs.Prelude.{◌≡◌, IfOk};
 ghost use Rattle.fugue_ids.specs.Ops.{id_of, key_of};
 

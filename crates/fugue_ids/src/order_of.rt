@@ -1,3 +1,5 @@
+//! `OrderOf`: the order of a list of elements, with the neighbours, positions and tree keys that FugueMax looks up.
+
 ghost use Rattle.std.specs.Prelude.{◌≡◌, ◌≢◌, All, AllPairs, Bool, Contains, List, nat_lt};
 ghost use Rattle.fugue_ids.specs.Identifiers.{Identifier};
 ghost use Rattle.fugue_ids.specs.Keys.{HasKey, IsFit, Keyed, between, first_id, first_low as first_low_in, front_of};
@@ -32,7 +34,7 @@ pub trait OrderOf {
         ensures distinct { AllPairs (λ x y. x ≢ y) (ids (listed self.now)) }
         ensures fit { All IsFit (listed self.now) };
 
-    /// The element directly behind this one; the first one behind the beginning. None comes back for one that is not
+    /// The element directly after this one; the first one after the beginning. None comes back for one that is not
     /// listed or stands last.
     fn behind(&self, id: Option<ElementId>) -> Option<ElementId>
         ensures { result ≡ first_id (rest_of id (listed self.now)) };
@@ -42,7 +44,7 @@ pub trait OrderOf {
         requires held { HoldsOrigin (ids (listed self.now)) id }
         ensures { result ≡ last_id (front_of id (listed self.now)) };
 
-    /// The first element behind this one, or behind the beginning, whose key is at most `most`.
+    /// The first element after this one, or after the beginning, whose key is at most `most`.
     fn first_low(&self, id: Option<ElementId>, most: Key) -> Option<ElementId>
         requires held { HoldsOrigin (ids (listed self.now)) id }
         ensures { result ≡ first_low_in most (rest_of id (listed self.now)) };

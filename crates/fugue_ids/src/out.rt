@@ -1,3 +1,5 @@
+//! Outputs: the trait that takes bytes, and calls that write pieces, scalars and headings whole.
+
 ghost use Rattle.std.specs.Prelude.{[], ◌∷◌, ◌++◌, codes, flat_map};
 ghost use Rattle.std.specs.Char.{encode_utf8};
 ghost use Rattle.fugue_ids.specs.Outs.{OutView, WritesSome, WritesBytes};
@@ -32,7 +34,7 @@ pub fn write_whole<O: Out>(out: &mut O, piece: &[u8]) -> Result<(), Failed>
     Ok(())
 }
 
-/// Writes the pieces, one behind the other, or fails with a front of them written. Pieces that fit into an array go out
+/// Writes the pieces, one after the other, or fails with a front of them written. Pieces that fit into an array go out
 /// as one, so that the lines of two programs on one terminal do not mix.
 pub fn write_pieces<O: Out>(out: &mut O, pieces: &[&[u8]]) -> Result<(), Failed>
     ensures { WritesBytes (O.seen out.old) (O.seen out.new) result (flat_map (λ piece. piece.now) pieces.now) }

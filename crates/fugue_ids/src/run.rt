@@ -1,11 +1,13 @@
+//! Text that was typed in one go: its first operation, the operation of each scalar, and where a run is split.
+
 ghost use Rattle.std.specs.Prelude.{◌≡◌, ◌↔◌, ◌<◌, ◌≤◌, ◌+◌, ◌++◌, ◌^◌, IsTrue, drop, length, take};
-ghost use Rattle.fugue_ids.specs.Runs.{run_from, start_behind, text_by, text_in};
+ghost use Rattle.fugue_ids.specs.Runs.{run_from, start_after, text_by, text_in};
 
 use crate::{ElementId, Op};
 
 /// What the first Text of a run says but for its scalar.
 ///
-/// A run is Texts that were typed in a row: each has the identifier behind that of the one before, which is its left
+/// A run is Texts that were typed in a row: each has the identifier after that of the one before, which is its left
 /// origin, and all have one right origin. So this and the scalars tell all of it.
 #[derive(Clone, Copy, Debug, PartialEq, Eq)]
 pub struct RunStart {
@@ -29,10 +31,10 @@ impl RunStart {
         }
     }
 
-    /// What the Text says that stands so many behind the first.
+    /// What the Text says that stands so many after the first.
     pub fn nth(&self, count: usize) -> RunStart
         requires { self.now.id.counter + count < 2 ^ 32 }
-        ensures { result ≡ start_behind self.now count }
+        ensures { result ≡ start_after self.now count }
     {
         if count == 0 {
             return *self;
@@ -47,7 +49,7 @@ impl RunStart {
 
     /// Whether a Text that says `next` goes on with a run that begins so and has `count` Texts.
     pub fn goes_on(&self, count: usize, next: &RunStart) -> bool
-        ensures { IsTrue result ↔ (next.now ≡ start_behind self.now count) }
+        ensures { IsTrue result ↔ (next.now ≡ start_after self.now count) }
     {
         if next.id.counter < self.id.counter {
             return false;
@@ -55,13 +57,13 @@ impl RunStart {
         (next.id.counter - self.id.counter) as usize == count && *next == self.nth(count)
     }
 
-    /// The first `count` scalars of a run that begins so, what the Text behind them says, and the other scalars.
+    /// The first `count` scalars of a run that begins so, what the Text after them says, and the other scalars.
     pub fn split_at<'a>(&self, text: &'a [char], count: usize) -> (&'a [char], RunStart, &'a [char])
         requires within { count ≤ length text.now }
         requires counters { self.now.id.counter + length text.now ≤ 2 ^ 32 }
         ensures front { result.0.now ≡ take count text.now }
         ensures rest { result.2.now ≡ drop count text.now }
-        ensures next { count < length text.now → result.1 ≡ start_behind self.now count }
+        ensures next { count < length text.now → result.1 ≡ start_after self.now count }
         ensures whole { run_from self.now text.now ≡ run_from self.now result.0.now ++ run_from result.1 result.2.now }
     {
         let (front, rest) = text.split_at(count);
@@ -74,7 +76,7 @@ impl RunStart {
     }
 }
 
-/// What a Text says but for its scalar, and the scalar. None is the answer for any other operation.
+/// What a Text says but for its scalar, and the scalar. Returns None for any other operation.
 pub fn read_text(op: &Op) -> Option<(RunStart, char)>
     ensures { result ≡ text_in op.now }
 {

@@ -1,3 +1,5 @@
+//! A section's title: text of one line, of a limited length.
+
 ghost use Rattle.std.specs.Prelude.{◌≡◌, ◌≢◌, ◌↔◌, ◌<◌, ◌≤◌, [], length, true, IfOk};
 ghost use Rattle.std.specs.Str.{chars as scalars_in, encode_utf8_all};
 ghost use Rattle.fugue_ids.specs.Titles.{has_line_end as has_line_end_in, IsTitleText};

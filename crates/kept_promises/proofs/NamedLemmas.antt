@@ -20,7 +20,7 @@ use Rattle.origin_model.specs.order.Printed.{deletes}
 use Rattle.origin_model.specs.taking.Taking.{Held, IsSettled, decided_on, held_from}
 use Rattle.origin_model.proofs.SharedLemmas.{has-append, has-holder, has_member, missing-held, ready_absent}
 use Rattle.version_views.specs.Laws.{leaves_version, view_named}
-use Rattle.version_views.specs.Versions.{is_version, is_withdrawn_version, name_given, op_behind, version_with, withdraws, withdraws_note}
+use Rattle.version_views.specs.Versions.{is_version, is_withdrawn_version, name_given, op_after, version_with, withdraws, withdraws_note}
 use Rattle.version_views.proofs.FrontMakingLemmas.{intakes_grow}
 use Rattle.version_views.proofs.VersionLemmas.{later_ops_leave_written}
 use Rattle.kept_promises.proofs.CameLemmas.{BecomesSo, Came, came, names_missing}
@@ -37,16 +37,16 @@ newer_absent (op ∷ new) old x w m =
     ]
 
 -- an operation with so many before it is one of the list
-behind_has : (ops : List Op) (n : ℕ) (op : Op) → op_behind ops n ≡ Some op → has_op ops op ≡ true
-behind_has [] n op e = cc e
-behind_has (o ∷ older) n op e =
-    let step : Bool → Option Op = λ b. if b then Some o else op_behind older n in
+after_has : (ops : List Op) (n : ℕ) (op : Op) → op_after ops n ≡ Some op → has_op ops op ≡ true
+after_has [] n op e = cc e
+after_has (o ∷ older) n op e =
+    let step : Bool → Option Op = λ b. if b then Some o else op_after older n in
     elim (cases_Bool (nat_eq (length older) n)) [
       | inl k ↦
           let same : Some o ≡ Some op = sym (ap step k) ∙ e in
           let is : o ≡ op = cc same in
           or_left (op_eq o op) (has_op older op) (subst (λ y. op_eq o y ≡ true) is (op_eq-refl o))
-      | inr k ↦ or_right (op_eq o op) (has_op older op) (behind_has older n op (sym (ap step k) ∙ e))
+      | inr k ↦ or_right (op_eq o op) (has_op older op) (after_has older n op (sym (ap step k) ∙ e))
     ]
 
 module _ (old : List Op) (r : ℕ) (name : List ℕ) where
@@ -87,13 +87,13 @@ module _ (old : List Op) (r : ℕ) (name : List ℕ) where
       by_id note m None own d = false≢true d
       by_id note m (Some i) own d = deletes_none op note i l m own d h w f u v
 
-      by_note : (n : ℕ) → (o : Option Op) → op_behind old n ≡ o → note_case o ≡ true → ⊥
+      by_note : (n : ℕ) → (o : Option Op) → op_after old n ≡ o → note_case o ≡ true → ⊥
       by_note n None e d = false≢true d
-      by_note n (Some note) e d = by_id note (behind_has old n note e) (id_of note) refl d
+      by_note n (Some note) e d = by_id note (after_has old n note e) (id_of note) refl d
 
       by : (o : Option ℕ) → version_with old r name ≡ o → ⊥
       by None e = false≢true (sym (ap version_case e) ∙ t)
-      by (Some n) e = by_note n (op_behind old n) refl (sym (ap version_case e) ∙ t)
+      by (Some n) e = by_note n (op_after old n) refl (sym (ap version_case e) ∙ t)
 
   waiting_leaves : (op : Op) → Lawful old → decided_on old op ≡ false → BecomesSo Leaves old op
   waiting_leaves op l u h w f v =

@@ -5,7 +5,7 @@ use Rattle.std.proofs.lemmas.List.Elements.{All-append, All-cons, All-nil, All-w
 use Rattle.fugue_ids.specs.Identifiers.{Identifier}
 use Rattle.fugue_ids.specs.Ops.{id_of}
 use Rattle.fugue_ids.specs.declared.op.Op.{Op}
-use Rattle.fugue_ids.proofs.ListLemmas.{all_behind}
+use Rattle.fugue_ids.proofs.ListLemmas.{all_after}
 use Rattle.origin_model.specs.frames.Frames.{IsIdentifier}
 use Rattle.origin_model.specs.operations.History.{has_op, holder}
 use Rattle.origin_model.specs.operations.Verdict.{Lawful}
@@ -25,7 +25,7 @@ IsHeldLine h l = All (IsHeld h) l.ids
 
 module _ (h : List Op) (w : Lawful h) where
   suffix_held : (xs common from : Chain) → xs ≡ common ++ from → All (IsHeld h) xs → All (IsHeld h) from
-  suffix_held xs common from e all = all_behind (IsHeld h) common from (subst (All (IsHeld h)) e all)
+  suffix_held xs common from e all = all_after (IsHeld h) common from (subst (All (IsHeld h)) e all)
 
   right_held : (c p : Identifier) → IsHeld h c → right_at h c ≡ Some p → IsHeld h p
   right_held c p k e = let o = found (holder h c) k in right_origin_held h c o.0 p w o.1 (sym (ap right_by o.1) ∙ e)

@@ -27,7 +27,7 @@ use Rattle.catalogue_notes.proofs.ArrangedLemmas.{arranged_shown, position_in, s
 use Rattle.catalogue_notes.proofs.HolderLemmas.{IsHeld, are_held}
 use Rattle.catalogue_notes.proofs.LiftLemmas.{lift_lawful, lifted_from, order_held}
 use Rattle.catalogue_notes.proofs.PartLemmas.{following_in}
-use Rattle.draft_plan.specs.Changes.{AreAllowed, PlanChange, Edit, Move, Retitle, all_made, replica_behind, change_refusal, made_of}
+use Rattle.draft_plan.specs.Changes.{AreAllowed, PlanChange, Edit, Move, Retitle, all_made, replica_after, change_refusal, made_of}
 use Rattle.draft_plan.specs.declared.fault.ReviseFault.TheVariants as fault
 use Rattle.origin_model.proofs.edits.SplitLemmas.{get_in}
 
@@ -110,8 +110,8 @@ all_ready : (s : State) (changes : List PlanChange) → Lawful s.held.history �
 all_ready s [] w a = tt
 all_ready s (change ∷ changes) w a =
     let one = change_ready s change w a.0 in
-    ready-append s.held.history (made_of s change) (all_made (replica_behind s change) changes) one
-    (all_ready (replica_behind s change) changes (ready_lawful s.held.history (made_of s change) w one) a.1)
+    ready-append s.held.history (made_of s change) (all_made (replica_after s change) changes) one
+    (all_ready (replica_after s change) changes (ready_lawful s.held.history (made_of s change) w one) a.1)
 
 pub changes_lawful : (s : State) (changes : List PlanChange) → Lawful s.held.history → AreAllowed s changes → Lawful (history_with s.held.history (all_made s changes))
 changes_lawful s changes w a = ready_lawful s.held.history (all_made s changes) w (all_ready s changes w a)

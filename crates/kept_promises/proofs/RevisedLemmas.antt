@@ -1,4 +1,4 @@
--- A revision of the replica as it was, behind which the rest is taken in, comes to what the whole holds.
+-- A revision of the replica as it was, after which the rest is taken in, comes to what the whole holds.
 use Rattle.std.proofs.Common.{Bool, List, [], ap, append-nil, arith, drop, false, inl, inr, length, refl, reverse, subst, sym, take, true, ℕ, ◌-◌, ◌++◌, ◌||◌, ◌∙◌, ◌∷◌, ◌≡◌, ◌≤◌}
 use Rattle.std.proofs.Common.{◌⊎◌}
 use Rattle.std.specs.Prelude.{All, None, Option, Some, if◌then◌else◌, not}
@@ -35,7 +35,7 @@ use Rattle.command_kinds.proofs.LawfulLemmas.{held_lawful}
 use Rattle.manuscript_cli.specs.Revising.{IsHandedBack, RevisionGives, Revises}
 use Rattle.manuscript_cli.specs.RevisingSince.{ComesAfterAccepted, ComesInWhole, GivesSince, SinceGives, lacking_ops, moment_refusal}
 use Rattle.manuscript_cli.proofs.RevisionTakenLemmas.{in_turn}
-use Rattle.kept_promises.specs.Revisions.{AreAlike, ComesTo, IsRevisedThenMerged, SinceIsReviseThenMerge, behind_first}
+use Rattle.kept_promises.specs.Revisions.{AreAlike, ComesTo, IsRevisedThenMerged, SinceIsReviseThenMerge, after_first}
 use Rattle.kept_promises.proofs.FewLemmas.{count, few_held}
 use Rattle.kept_promises.proofs.ReadyLemmas.{changes_lawful}
 use Rattle.kept_promises.proofs.WithinLemmas.{Leaves, all_stay, all_taken, part_short, same_verdict}
@@ -75,9 +75,9 @@ all_has h (op ∷ ops) all x m =
       | inr j ↦ all_has h ops (All-tail (λ o. has_op h o ≡ true) op ops all) x j
     ]
 
--- the operations behind the first n join these
-behind_joins : (n : ℕ) (h : List Op) → history_with (first_ops n h) (drop n (accepted h)) ≡ h
-behind_joins n h =
+-- the operations after the first n join these
+after_joins : (n : ℕ) (h : List Op) → history_with (first_ops n h) (drop n (accepted h)) ≡ h
+after_joins n h =
     let xs : List Op = accepted h in
     let first : accepted (first_ops n h) ≡ take n xs = ap reverse (sym (first_taken n h)) ∙ reverse-reverse (take n xs) in
     let whole : accepted (history_with (first_ops n h) (drop n xs)) ≡ xs = join_at_end (first_ops n h) (drop n xs) ∙ ap (λ l. l ++ drop n xs) first ∙ take-append-drop n xs in
@@ -177,7 +177,7 @@ module _ (n : ℕ) (was : Replica) (revised : Outcome) (w : Lawful was.held.hist
 
   -- ---- the rest alone
   abbrev rest : List Op
-  rest = behind_first n was.held
+  rest = after_first n was.held
 
   rest_within : (x : Op) → has_op rest x ≡ true → has_op h x ≡ true
   rest_within x m =
@@ -195,7 +195,7 @@ module _ (n : ℕ) (was : Replica) (revised : Outcome) (w : Lawful was.held.hist
 
   pub rest_comes : ComesTo was revised.held rest whole.history
   rest_comes =
-      let turn : ReadyInTurn first rest = in_turn rest first (subst Lawful (sym (behind_joins n h)) w) in
+      let turn : ReadyInTurn first rest = in_turn rest first (subst Lawful (sym (after_joins n h)) w) in
       let first_in : IsPartOf first came.last = λ x m. last_has x ∙ or_left (has_op first x) (has_op revised.saved x) m in
       let t = all_taken was.hold was.most whole.history lawful short rest first came.last came.lawful last_part first_in turn (λ x m. old_part x (rest_within x m)) in
       record {

@@ -12,7 +12,7 @@ use Rattle.command_kinds.specs.declared.status.Status.TheVariants.{Done}
 use Rattle.manuscript_cli.specs.Runs.{AllBrought, CommandRun, FollowEachOther}
 
 -- Whatever runs leave of a file that lay still, also by a crash, it has the header and the operations that it had, and
--- behind these what the runs brought.
+-- after these what the runs brought.
 abbrev pub FilesKeepOperations : Type 0
 FilesKeepOperations =
     (header : Header) (ops : List Op) (image : List ℕ) (runs : List CommandRun) (last : DiskState)

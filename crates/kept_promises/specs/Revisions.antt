@@ -34,17 +34,17 @@ pub record ComesTo (replica : Replica) (held : Held) (ops other : List Op) : Typ
   pub place : MeetsNoLimit replica.hold replica.most held ops
   pub alike : AreAlike (held_from replica.hold replica.most held ops).history other
 
--- what was accepted behind the first n operations
-abbrev pub behind_first : ℕ → Held → List Op
-behind_first n held = drop n (accepted held.history)
+-- what was accepted after the first n operations
+abbrev pub after_first : ℕ → Held → List Op
+after_first n held = drop n (accepted held.history)
 
 -- A revision of the replica as it was when n operations were accepted came to this state. If it then takes in what was accepted
--- behind these, or merges all that the file holds, it comes to what the file has now.
+-- after these, or merges all that the file holds, it comes to what the file has now.
 pub record IsRevisedThenMerged (n : ℕ) (guest : DiskView) (input : SourceView) (finding : Finding Outcome) (was : Replica)
     (now : Held) : Type 0 where
   pub revised : Outcome
   pub gives : RevisionGives guest input finding (replica_at n was) (Does revised)
-  pub rest : ComesTo was revised.held (behind_first n was.held) now.history
+  pub rest : ComesTo was revised.held (after_first n was.held) now.history
   pub merged : ComesTo was revised.held (all_held_ops was.held) now.history
 
 -- what a draft with a number gives

@@ -5,8 +5,8 @@ ghost use Rattle.kept_promises.specs.Keeping.{FilesKeepOperations};
 ghost use Rattle.kept_promises.specs.Revisions.{RevisingSinceIsReviseThenMerge, SinceIsReviseThenMerge};
 ghost use Rattle.kept_promises.specs.Views.{ViewsPrintTheSame, ViewsStay};
 
-/// The operations that a file has are in it for good. Whatever commands run on it, and wherever a crash comes, they stand
-/// first, and behind them, in order, those of each command that ended well.
+/// The operations that a file has are in it for good. Whatever commands run on it, and wherever a crash comes, they
+/// stand first, and after them, in order, those of each command that ended well.
 ///
 /// `every_finished_command_is_in_the_file` says so of a new file; this law begins at any file that lies still.
 pub fn files_keep_operations()

@@ -23,7 +23,7 @@ const POOL: &[Line] = &[
     Text((3, 1), SECTION, (3, 1), NONE, 'a'),
     // Its target comes, and is accepted nowhere.
     Delete((3, 0)),
-    // A section behind a text.
+    // A section after a text.
     Section((8, 0), (1, 0), NONE, "T"),
     Delete((2, 0)),
 ];

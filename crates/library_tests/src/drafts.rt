@@ -232,7 +232,7 @@ type Revision = (
 
 const REVISIONS: [Revision; 8] = [
     (100, "one two", "one two", Ok(0), "one two"),
-    // A word is cut with the blank behind it, and another one put.
+    // A word is cut with the blank after it, and another one put.
     (100, "one two", "1 two", Ok(6), "1 two"),
     (100, "", "x", Ok(1), "x"),
     (100, "one two", "", Ok(7), ""),

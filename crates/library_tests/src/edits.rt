@@ -171,7 +171,7 @@ const ROWS: &[Row] = &[
         text: "# T\nA-B\n",
         ..FRESH
     },
-    // A note on a text that is deleted then, and a text in front of that one, behind an identifier that waits.
+    // A note on a text that is deleted then, and a text in front of that one, after an identifier that waits.
     Row {
         lines: &[T, WAITING],
         waiting: 1,

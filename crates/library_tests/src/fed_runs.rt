@@ -25,7 +25,7 @@ use std::test::Fail;
 /// Operations that follow one another in a stream.
 #[derive(Clone, Copy)]
 enum Row {
-    /// The first counter of replica 1, how many letters, and what the first of them stands behind.
+    /// The first counter of replica 1, how many letters, and what the first of them stands after.
     Typed(u32, u32, Name),
     /// The first counter of replica 1, and how many Deletes.
     Deleted(u32, u32),
@@ -208,7 +208,7 @@ const CASES: &[Case] = &[
         counts: [9, 2, 0, 0, 2],
         waiting: 0,
     },
-    // The letter behind it is stray, and the one behind that waits for good.
+    // The letter after it is stray, and the one after that waits for good.
     Case {
         name: "a letter of a run is held in another section",
         hold: 9,
@@ -404,7 +404,7 @@ fn feed(
     }
 }
 
-/// Reads the stream and feeds it, to its end or to the first fault. The answer is how often the reader gave something.
+/// Reads the stream and feeds it, to its end or to the first fault. Returns how often the reader gave something.
 fn feed_all(
     rt: &impl Abort,
     alloc: Global,

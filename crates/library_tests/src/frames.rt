@@ -78,7 +78,7 @@ fn operations(rt: &HostRuntime) -> Result<Vec<Op>, Fail> {
     ]?)
 }
 
-/// So many letters A typed in a row, from this counter on, the first one behind `before`.
+/// So many letters A typed in a row, from this counter on, the first one after `before`.
 fn typed_row(
     rt: &HostRuntime,
     first: u32,
@@ -96,7 +96,7 @@ fn typed_row(
     Ok(ops)
 }
 
-/// How many of the operations come, each from the start of its frame, and the answer behind them.
+/// How many of the operations come, each from the start of its frame, and the answer after them.
 fn read_all<S: Source>(
     reader: &mut FrameReader,
     source: &mut S,
@@ -127,7 +127,7 @@ fn come_one_by_one(rt: &impl AllocGlobal, frame: &[u8], ops: &[Op]) -> Result<bo
 }
 
 /// Where each operation's frame begins, where the operations are read from the frames byte by byte and whole. These are
-/// the operations, and there is no byte behind them.
+/// the operations, and there is no byte after them.
 fn starts_of(rt: &(impl Abort + AllocGlobal), bytes: &[u8], ops: &[Op]) -> Result<Vec<u64>, Fail> {
     let mut starts = Vec::new(rt.alloc());
     let mut front = FrameFront::new(Grammar::Version2);
@@ -153,7 +153,7 @@ fn starts_of(rt: &(impl Abort + AllocGlobal), bytes: &[u8], ops: &[Op]) -> Resul
     Ok(starts)
 }
 
-/// Whether the operations are written as these frames behind what stands there, and are read back from them.
+/// Whether the operations are written as these frames after what stands there, and are read back from them.
 fn is_framed(rt: &(impl Abort + AllocGlobal), ops: &[Op], frames: &[u8]) -> Result<bool, Fail> {
     let mut bytes = Vec::from_slice(rt.alloc(), b"#")?;
     encode_all(OpSlice::of(ops), &mut bytes)?;
@@ -198,7 +198,7 @@ const TEXT: &[u8] = b"\x02\0\0\0\x01\0\0\0\0\0\0\0\x09\0\0\0\0";
 
 const NOTE: &[u8] = b"\x05\0\0\0\x01\0\0\0\0";
 
-/// The first bytes of runs, up to the count: from the first counter on, and from those behind which there are 300 more,
+/// The first bytes of runs, up to the count: from the first counter on, and from those after which there are 300 more,
 /// one more and 1,023 more.
 const RUN: &[u8] = b"\x04\0\0\0\x01\0\0\0\0\0\0\0\x09\0\0\0\0\0\0";
 
@@ -208,7 +208,7 @@ const RUN_OF_2: &[u8] = b"\x04\0\0\0\x01\xff\xff\xff\xfe\0\0\0\x09\0\0\0\0\0\0";
 
 const RUN_OF_1024: &[u8] = b"\x04\0\0\0\x01\xff\xff\xfc\0\0\0\0\x09\0\0\0\0\0\0";
 
-/// Bytes that begin a frame, bytes behind them, and whether the last of these is wrong.
+/// Bytes that begin a frame, bytes after them, and whether the last of these is wrong.
 const FRONTS: &[(&[u8], &[u8], bool)] = &[
     (b"", b"\0", true),
     (b"", b"\x06", true),
@@ -414,7 +414,7 @@ fn each_short_list_is_written_as_a_plain_encoder_does_and_read_back(
             holds_at(&rt, &(len, number), is_framed(&rt, &ops, &frames)?);
         }
     }
-    // Behind 1,024 Texts a frame ends, and one that is left over has its own.
+    // After 1,024 Texts a frame ends, and one that is left over has its own.
     for (count, len) in [
         (1_023, 3_090),
         (1_024, 3_093),

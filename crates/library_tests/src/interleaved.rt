@@ -29,7 +29,7 @@ const THIRD: &[Edit] = &[
 ];
 
 /// A replica's number, its edits, and the order in which it hears of the pool: which operation comes first, and how far
-/// behind each the next one stands.
+/// after each the next one stands.
 struct Author {
     number: u32,
     edits: &'static [Edit],
@@ -97,7 +97,7 @@ fn join(
     Ok(())
 }
 
-/// Delivers the pool, each operation `step` behind the one before, to the author's replica, as it was when it had made
+/// Delivers the pool, each operation `step` after the one before, to the author's replica, as it was when it had made
 /// its edits, and to the plain one.
 fn hear_all(
     rt: &impl Abort,

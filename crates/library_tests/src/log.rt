@@ -282,7 +282,7 @@ fn each_session_is_answered_as_its_text_asks_while_the_log_has_room(
     Ok(())
 }
 
-/// What four sessions say: a section and a text, with a byte behind the closing one; a run that begins with the text,
+/// What four sessions say: a section and a text, with a byte after the closing one; a run that begins with the text,
 /// with more; a cursor that may come too early; and a surrogate at the end.
 const TEXTS: [&[u8]; 4] = [
     &[
@@ -316,7 +316,7 @@ enum TextState {
     Cursor(u32),
     /// The frame of these ends there.
     Frame(Vec<Op>),
-    /// The closing byte, behind this greeting.
+    /// The closing byte, after this greeting.
     Closing(u32),
     Bad,
 }

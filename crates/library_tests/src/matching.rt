@@ -54,7 +54,7 @@ const ROWS: [Row; 11] = [
         &[("X", "seeing"), ("Y", "sealed")],
         &[Some(0), Some(1)],
     ),
-    // Texts that share the same words, behind a part that shares none.
+    // Texts that share the same words, after a part that shares none.
     (
         &[
             ("A", "one two three four five six seven"),

@@ -25,7 +25,7 @@ fn take_all(
     Ok(())
 }
 
-/// Lines with their verdicts behind `T`, another section, `B` and `A`: the first rule that applies decides.
+/// Lines with their verdicts after `T`, another section, `B` and `A`: the first rule that applies decides.
 fn compare_verdicts(
     rt: &impl Abort,
     alloc: Global,

@@ -76,7 +76,7 @@ pub fn is_beside(alloc: Global, replica: &Replica, plain: &Plain) -> Result<bool
     Ok(is_held && writes(alloc, replica, &wanted)?)
 }
 
-/// Feeds the pool to both, each operation `step` behind the one before, and compares them after each.
+/// Feeds the pool to both, each operation `step` after the one before, and compares them after each.
 pub fn keep_beside(
     rt: &impl Abort,
     alloc: Global,

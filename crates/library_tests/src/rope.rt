@@ -69,7 +69,7 @@ fn insert(
     }
 }
 
-/// Another value for an item, and one item more directly behind it, where both may be.
+/// Another value for an item, and one item more directly after it, where both may be.
 fn part(
     rope: &mut Rope<Stretch>,
     at: ElementId,
@@ -118,7 +118,7 @@ fn check_places(rt: &impl Abort, rope: &Rope<Stretch>, beside: &[u32]) {
     );
 }
 
-/// 10,000 items come before all others, 10,000 behind all others, and 2,000 at random places.
+/// 10,000 items come before all others, 10,000 after all others, and 2,000 at random places.
 #[test]
 fn inserts_stand_as_in_a_vector(rt: HostRuntime) {
     let mut rope = Rope::new(rt.alloc());
@@ -184,7 +184,7 @@ fn items_are_found_by_keys_units_and_ranks(rt: HostRuntime) {
         rope.last_low(1, 5),
     ];
     equal(&rt, lows, [Some(id(1, 7)), Some(id(1, 4)), None]);
-    // Of one place, of none, and of places behind all.
+    // Of one place, of none, and of places after all.
     for (from, to, wanted) in [(3, 4, Some((3, 2))), (2, 2, None), (5, 9, None)] {
         let found = match rope.item_within(from, to) {
             Some((place, value)) => Some((place, value.rank)),

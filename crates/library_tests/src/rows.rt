@@ -38,7 +38,7 @@ fn ready_front(
     Ok(ordered)
 }
 
-// Passages forwards: each letter behind the one before.
+// Passages forwards: each letter after the one before.
 const LOWER_A: Line = Text((1, 0), SECTION, NONE, NONE, 'a');
 
 const B_BEHIND_A: Line = Text((1, 1), SECTION, (1, 0), NONE, 'b');

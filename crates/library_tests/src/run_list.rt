@@ -161,12 +161,12 @@ fn plain_repeats(ops: &[Op], position: usize, start: &RunStart, text: &[char]) -
     text.len()
 }
 
-/// Puts an operation behind the others, if there is room.
+/// Puts an operation after the others, if there is room.
 fn push(runs: &mut OpRuns, op: Op) -> bool {
     runs.len() < 1_000 && runs.push(op).is_ok()
 }
 
-/// Takes the last operation of both lists, where that is a Section or a Note. The answer is whether they agree.
+/// Takes the last operation of both lists, where that is a Section or a Note. Returns whether they agree.
 fn take_last(runs: &mut OpRuns, plain: &mut Vec<Op>) -> bool {
     let is_other = matches!(
         plain.last(),
@@ -210,7 +210,7 @@ fn it_is_the_plain_list(rt: HostRuntime) -> Result<(), Fail> {
     Ok(())
 }
 
-/// Puts Deletes of so many neighbours behind the others, if there is room.
+/// Puts Deletes of so many neighbours after the others, if there is room.
 fn push_deletes(runs: &mut OpRuns, first: ElementId, count: u32) -> bool {
     let is_small = runs.len() < 1_000 && first.counter < 1_000 && count < 1_000;
     is_small && runs.push_deletes(first, count).is_ok()

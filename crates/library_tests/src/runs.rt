@@ -14,7 +14,7 @@ use std::alloc::Global;
 use std::process::Abort;
 use std::test::Fail;
 
-/// Letters of one author, typed one behind the other.
+/// Letters of one author, typed one after the other.
 fn type_letters(store: &mut RunStore, letters: u32) -> Result<(), NoMemory> {
     let mut last = None;
     for counter in 0..letters {
@@ -70,7 +70,7 @@ fn letters_deleted_beside_each_other_share_a_run(rt: HostRuntime) {
         let mut store = RunStore::new(rt.alloc());
         equal(&rt, type_letters(&mut store, 50), Ok(()));
         for turn in 0..50u32 {
-            // Before and behind the middle in turn.
+            // Before and after the middle in turn.
             let counter = match first {
                 25 if turn % 2 == 1 => 24u32.saturating_sub(turn / 2),
                 25 => 25 + turn / 2,
@@ -118,7 +118,7 @@ fn join(
 
 const LETTERS: [char; 4] = ['a', 'é', '€', '𝄞'];
 
-/// One cell more: the next letter behind some cell, or one with any origins in any gap.
+/// One cell more: the next letter after some cell, or one with any origins in any gap.
 fn put_any(
     rt: &impl Abort,
     dice: &mut Dice,
@@ -202,7 +202,7 @@ fn run_seed(rt: &impl Abort, alloc: Global, store: &mut RunStore, seed: u64) -> 
 
 const WIPED: usize = 23;
 
-/// Types letters and hides them all, each so many behind the one before it, and at the end from the start on.
+/// Types letters and hides them all, each so many after the one before it, and at the end from the start on.
 fn wipe(
     rt: &impl Abort,
     alloc: Global,

@@ -7,7 +7,7 @@ use Rattle.std.proofs.lemmas.Grind.{flat_map-append}
 use Rattle.std.proofs.lemmas.List.Elements.{All-append, All-cons, All-contains, All-head, All-nil, All-tail, All-weaker}
 use Rattle.fugue_ids.specs.Ops.{op_eq}
 use Rattle.fugue_ids.specs.declared.op.Op.{Op}
-use Rattle.fugue_ids.proofs.ListLemmas.{all_before, all_behind, all_from_contains}
+use Rattle.fugue_ids.proofs.ListLemmas.{all_before, all_after, all_from_contains}
 use Rattle.fugue_ids.proofs.OpLemmas.{op_eq-refl, op_eq-true}
 use Rattle.origin_model.specs.operations.History.{has_op}
 use Rattle.origin_model.specs.operations.Verdict.{Lawful}
@@ -83,7 +83,7 @@ one_has n came front s back before behind has =
 -- the one with the number n among replicas that have what came
 had_by : (n : ℕ) (came : List Op) (ss : List State) (k : IsAt n ss) → All (HasAt n came) ss → Has came k.it.held
 had_by n came ss k has =
-    All-head (HasAt n came) k.it k.back (all_behind (HasAt n came) k.front (k.it ∷ k.back) (subst (All (HasAt n came)) k.whole has)) k.number
+    All-head (HasAt n came) k.it k.back (all_after (HasAt n came) k.front (k.it ∷ k.back) (subst (All (HasAt n came)) k.whole has)) k.number
 
 -- a change of another replica leaves what the one with the number n has
 other_changes : (n number : ℕ) (f : State → State) (came : List Op) (ss : List State) → ((s : State) → (f s).number ≡ s.number) → (number ≡ n → ⊥) → All (HasAt n came) ss
@@ -108,7 +108,7 @@ making_has n came w makes own sound has =
           (others_have n (made_at n makes w.replicas ++ came) w.replicas a)
       | inr k ↦
           let all : All (IsMember w.pool) (k.front ++ k.it ∷ k.back) = subst (All (IsMember w.pool)) k.whole sound.members in
-          let it : IsMember w.pool k.it = All-head (IsMember w.pool) k.it k.back (all_behind (IsMember w.pool) k.front (k.it ∷ k.back) all) in
+          let it : IsMember w.pool k.it = All-head (IsMember w.pool) k.it k.back (all_after (IsMember w.pool) k.front (k.it ∷ k.back) all) in
           let new = makes_has came (makes k.it) k.it (had_by n came w.replicas k has) (own k.it it.lawful) in
           subst (λ ops. All (HasAt n (ops ++ came)) (changed_replicas n made w.replicas)) (sym (one_makes n makes w.replicas k))
           (subst (All (HasAt n (makes k.it ++ came))) (sym (one_changes n made w.replicas k)) (one_has n (makes k.it ++ came) k.front (made k.it) k.back k.before k.behind new))
@@ -237,7 +237,7 @@ events_have n came w (event ∷ events) sound f l has =
     let later : List Op = brought n next events in
     let part : IsPartOf (now ++ came) next.pool = parts_join now came next.pool (brought_part n w event) (λ x k. event_keeps w event x (f x k)) in
     let rest : All (HasAt n (later ++ (now ++ came))) (after_events next events).replicas =
-    events_have n (now ++ came) next events (event_sound w event sound) part (all_behind P (answers_to n w event) (all_answers n next events) l)
+    events_have n (now ++ came) next events (event_sound w event sound) part (all_after P (answers_to n w event) (all_answers n next events) l)
     (event_has n came w event sound f (all_before P (answers_to n w event) (all_answers n next events) l) has) in
     All-weaker (HasAt n (later ++ (now ++ came))) (HasAt n ((now ++ later) ++ came)) (λ s h e.
     let k = h e in

@@ -1,5 +1,5 @@
--- A call that edits a replica is an edit of the world, for want of memory a smaller one; one that makes a note is a
--- noting, or for want of memory none.
+-- A call that edits a replica is an edit of the world, for lack of memory a smaller one; one that makes a note is a
+-- noting, or for lack of memory none.
 use Rattle.std.proofs.Common.{List, [], ap, arith, false, inl, inr, length, nat_lt, refl, subst, sym, ◌&&◌, ◌+◌, ◌-◌, ◌<◌, ◌^◌, ◌∙◌, ◌≡◌, ◌≢◌, ◌≤◌, ◌⊎◌, ℕ}
 use Rattle.std.specs.Prelude.{Err, None, Ok, Option, Some, if◌then◌else◌, slice_get, take}
 use Rattle.std.proofs.lemmas.Bool.{le-ltb, ltb-false}
@@ -95,7 +95,7 @@ smaller (DropSection k) s j e l =
     let x = section_there (section_shown s k) (λ x. refused_ops s 1) e in
     no_part (DropSection k) s j (omega (arith, l, ap length (drop_made s.number s.held.history s.held.waiting k x.0 x.1)))
 
--- want of memory, or another cause
+-- an allocation failure, or another cause
 which : (fault : EditFault) → (fault ≡ NoMemory) ⊎ (fault ≢ NoMemory)
 which NoSection = inr (λ e. cc e)
 which OutOfRange = inr (λ e. cc e)
@@ -128,7 +128,7 @@ refused_is command old new fault other call =
       whole = λ n. refl;
     }
 
--- one that memory was wanting for
+-- one that memory ran out for
 stopped_is : (command : Command) (old new : State) → IsEditCall command old new (Err NoMemory) → IsWorldEdit command old new (Err NoMemory)
 stopped_is command old new call =
     let e : refusal_message old command ≡ None = not_refused command old other in
@@ -172,11 +172,11 @@ calls_are_edits command old new (Err fault) call =
       | inr n ↦ refused_is command old new fault n call
     ]
 
--- want of memory does not refuse a note
+-- an allocation failure does not refuse a note
 note_named : (s : State) (fault : EditFault) → note_refusal s ≡ Some fault → fault ≢ NoMemory
 note_named s fault k e = never_more s 1 (k ∙ ap Some e)
 
--- every call that makes a note is a noting of the world, or for want of memory none
+-- every call that makes a note is a noting of the world, or for lack of memory none
 pub calls_are_notings : CallsAreNotings
 calls_are_notings named code body old new (Ok n) held call =
     record {

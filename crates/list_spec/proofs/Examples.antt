@@ -57,7 +57,7 @@ hearing =
     ∷ Deliver 2 (Text (id_at 1 1) section None None 97)
     ∷ []
 
--- the two passages were begun at one place, and stand one behind the other
+-- the two passages were begun at one place, and stand one after the other
 together : texts (world both (typing ++ hearing)) ≡ codes "abxy" ∷ codes "abxy" ∷ []
 unfolding order chain verdict settle
 together = refl
@@ -89,7 +89,7 @@ number_shared : Lawful (world one_number (Edit 1 (Add 0 (codes "T")) ∷ Edit 1 
 unfolding order chain verdict
 number_shared lawful = let clash : Conflict ≡ Ready = lawful.1.0 in cc clash
 
--- `b` was typed behind `a`, and `y` was put between them or in front of both, so it has not the origins of `a`
+-- `b` was typed after `a`, and `y` was put between them or in front of both, so it has not the origins of `a`
 abbrev with_y : (left right : Option Identifier) → List Op
 with_y left right =
     Text (id_at 2 0) section left right 121 ∷ Text (id_at 1 2) section (Some (id_at 1 1)) None 98 ∷ Text (id_at 1 1) section None None 97 ∷ the_section ∷ []

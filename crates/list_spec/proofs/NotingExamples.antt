@@ -55,7 +55,7 @@ spent = with_held (replica 1) (Section (id_at 1 (2 ^ 32 - 1)) None None (codes "
 refused : (replica_after_note [] 0 [] full ≡ full) × (replica_after_note [] 0 [] spent ≡ spent)
 refused = (refl, refl)
 
--- replica 2 hears of the note before what it names: it waits, and is accepted behind the section
+-- replica 2 hears of the note before what it names: it waits, and is accepted after the section
 abbrev early : List Event
 early = noting ++ Deliver 2 the_note ∷ []
 
@@ -63,12 +63,12 @@ waits : world both early ≡ record after_noting { replicas = with_held (replica
 unfolding order verdict settle
 waits = refl
 
-accepted_behind : world both (early ++ Deliver 2 the_section ∷ [])
+accepted_after : world both (early ++ Deliver 2 the_section ∷ [])
     ≡ record after_noting { replicas = with_held (replica 1) (the_note ∷ the_section ∷ []) [] ∷ with_held (replica 2) (the_note ∷ the_section ∷ []) [] ∷ [] }
 unfolding order verdict settle
-accepted_behind = refl
+accepted_after = refl
 
--- what is typed next has the counter behind the note's, and shows as if there were no note
+-- what is typed next has the counter after the note's, and shows as if there were no note
 typed_next : (world both (noting ++ Edit 1 (Put 0 0 (codes "a")) ∷ [])).pool ≡ Text (id_at 1 2) section None None 97 ∷ the_note ∷ the_section ∷ []
 unfolding order
 typed_next = refl
@@ -77,7 +77,7 @@ shown_as_ever : texts (world both (noting ++ Edit 1 (Put 0 0 (codes "a")) ∷ No
 unfolding order chain
 shown_as_ever = refl
 
--- the counter that replica 2 takes is behind those that notes name too
+-- the counter that replica 2 takes is after those that notes name too
 abbrev with_name : State
 with_name = with_held (replica 2) [] (Note (id_at 1 5) (id_at 2 8 ∷ []) 0 [] ∷ [])
 

@@ -39,11 +39,11 @@ c = id_at 3 0
 is_in : (h : List Op) (x : Identifier) (l r : Option Identifier) → holder h x ≡ Some (letter x l r) → IsIn (within section) h x
 is_in h x l r e = record { op = letter x l r; held = e; place = refl }
 
--- a names b before b came; c stands behind b, before a
+-- a names b before b came; c stands after b, before a
 abbrev early : List Op
 early = letter c (Some b) (Some a) ∷ letter b None None ∷ letter a (Some b) None ∷ begun
 
--- in a history that is not lawful, what hangs on the left of a stands behind it
+-- in a history that is not lawful, what hangs on the left of a stands after it
 before_right_lawful : ((p : Place) (h : List Op) (r : Identifier) → IsIn p h r → StandsBefore p h r) → ⊥
 unfolding before order chain
 before_right_lawful law =
@@ -91,7 +91,7 @@ by_identifier_second law =
     let h : List Op = letter a None None ∷ begun in
     false≢true (law (within section) h a b (refl, (refl, tt)) (is_in h a None None refl) (id_eq-false a b refl) refl refl)
 
--- a was put behind b, or before it
+-- a was put after b, or before it
 by_identifier_left :
     ((p : Place) (h : List Op) (x y : Identifier) → Lawful h → IsIn p h x → IsIn p h y → x ≢ y → right_at h x ≡ right_at h y → before p h x y ≡ id_lt x y) → ⊥
 unfolding before order chain verdict
@@ -106,7 +106,7 @@ by_identifier_right law =
     let h : List Op = letter b None (Some a) ∷ letter a None None ∷ begun in
     true≢false (law (within section) h b a (refl, (refl, (refl, tt))) (is_in h b None (Some a) refl) (is_in h a None None refl) (id_eq-false b a refl) refl)
 
--- passages without letters behind the first are a tie, so the premises of ties are needed here too
+-- passages without letters after the first are a tie, so the premises of ties are needed here too
 
 -- all of one list stands before all of the other, by the identifiers of the first elements
 abbrev Apart : Place → List Op → (x y : Identifier) → (xs ys : List Identifier) → Type 0

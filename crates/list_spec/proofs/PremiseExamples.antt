@@ -48,7 +48,7 @@ strong_list_empty law =
     let view : IsView [] (the_section ∷ []) = All-head (λ (t : State). IsView [] t.held.history) s [] (law (s ∷ []) [] (one_number s)).views in
     false≢true (view.part the_section refl)
 
--- one that begins with an operation twice lists its element twice, and a section that is put behind it stands behind both
+-- one that begins with an operation twice lists its element twice, and a section that is put after it stands after both
 abbrev twice : State
 twice = with_history (the_section ∷ the_section ∷ [])
 
@@ -101,7 +101,7 @@ calls_refused :
     → IsWorldEdit command old new result) → ⊥
 calls_refused law = not_made (Err NoSection) (λ e. cc e) (law adding new_one new_one (Err NoSection) tt refl)
 
--- one that for want of memory leaves another replica
+-- one that for lack of memory leaves another replica
 calls_unmade :
     ((command : Command) (old new : State) (result : Result ℕ EditFault) → IfOk result (λ n. IsMade old new command n) → RefusesExactly old command result
     → IsWorldEdit command old new result) → ⊥
@@ -152,7 +152,7 @@ notings_refused :
     → IfOk result (λ n. IsNoted old new named code body n) → OnErr result (new ≡ old) → IsNoting named code body old new result) → ⊥
 notings_refused law = not_noted (Err NoSection) (λ e. cc e) (law [] 0 [] new_one new_one (Err NoSection) (none_lacks new_one) tt refl)
 
--- one that for want of memory leaves another replica
+-- one that for lack of memory leaves another replica
 notings_unmade :
     ((named : List Identifier) (code : ℕ) (body : List ℕ) (old new : State) (result : Result ℕ EditFault) → AreHeld old.held.history named
     → IfOk result (λ n. IsNoted old new named code body n)

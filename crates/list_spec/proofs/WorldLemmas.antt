@@ -7,7 +7,7 @@ use Rattle.std.proofs.lemmas.Grind.{flat_map-append}
 use Rattle.std.proofs.lemmas.List.{map-append}
 use Rattle.std.proofs.lemmas.List.Elements.{All-append, All-cons, All-head, All-map, All-nil, All-tail, All-weaker}
 use Rattle.fugue_ids.specs.declared.op.Op.{Op}
-use Rattle.fugue_ids.proofs.ListLemmas.{all_before, all_behind, all_from_map, all_pairs_head, all_pairs_tail}
+use Rattle.fugue_ids.proofs.ListLemmas.{all_before, all_after, all_from_map, all_pairs_head, all_pairs_tail}
 use Rattle.origin_model.specs.operations.History.{has_op}
 use Rattle.origin_model.specs.operations.Verdict.{Lawful}
 use Rattle.origin_model.specs.order.Laws.{IsPartOf}
@@ -112,12 +112,12 @@ numbers_stay n f (s ∷ ss) e =
 abbrev MakesOwn : (State → List Op) → Type 0
 MakesOwn makes = (s : State) → Lawful s.held.history → IsEffect s (makes s)
 
--- the replica that makes operations, and the pool, behind them
-record IsBehind (pool : List Op) (s : State) : Type 0 where
+-- the replica that makes operations, and the pool, after them
+record IsAfter (pool : List Op) (s : State) : Type 0 where
   lawful : Lawful pool
   member : IsMember pool s
 
-gains : (pool ops : List Op) (s : State) → Lawful pool → IsMember pool s → IsEffect s ops → IsBehind (pool_with pool ops) (with_ops s ops)
+gains : (pool ops : List Op) (s : State) → Lawful pool → IsMember pool s → IsEffect s ops → IsAfter (pool_with pool ops) (with_ops s ops)
 gains pool ops s w m e =
     let p = pool_all s.number s.held.history pool ops (record { lawful = w; part = m.history_part; own = m.own }) e.by e.ready in
     record {
@@ -152,7 +152,7 @@ pub record IsSound (w : World) : Type 0 where
   pub distinct : AllPairs (λ m n. m ≢ n) (numbers w.replicas)
   pub members : All (IsMember w.pool) w.replicas
 
--- the pool and the members behind operations that one replica makes
+-- the pool and the members after operations that one replica makes
 abbrev Goes : List Op → List State → Type 0
 Goes pool replicas = Lawful pool × All (IsMember pool) replicas
 
@@ -166,7 +166,7 @@ making_goes w n makes own g =
       | inr k ↦
           let ops : List Op = makes k.it in
           let all : All (IsMember w.pool) (k.front ++ k.it ∷ k.back) = subst (All (IsMember w.pool)) k.whole g.members in
-          let rest : All (IsMember w.pool) (k.it ∷ k.back) = all_behind (IsMember w.pool) k.front (k.it ∷ k.back) all in
+          let rest : All (IsMember w.pool) (k.it ∷ k.back) = all_after (IsMember w.pool) k.front (k.it ∷ k.back) all in
           let it : IsMember w.pool k.it = All-head (IsMember w.pool) k.it k.back rest in
           let its : IsEffect k.it ops = own k.it it.lawful in
           let by : All (IsBy n) ops = subst (λ m. All (IsBy m) ops) k.number its.by in
@@ -181,7 +181,7 @@ making_goes w n makes own g =
           )
     ]
 
--- a replica behind a delivery
+-- a replica after a delivery
 receives : (pool : List Op) (op : Op) (s : State) → has_op pool op ≡ true → IsMember pool s → IsMember pool (replica_after_delivery op s)
 receives pool op s k m =
     let g = taking_in s.hold s.most pool s.held.history s.held op k

@@ -16,8 +16,8 @@ pub record IsEditCall (command : Command) (old new : State) (result : Result ℕ
   pub refused : RefusesExactly old command result
   pub unmade : IfErr result (λ fault. LeavesUnmade old new command fault)
 
--- the call is an edit of the world: the one that was asked for or, where memory was wanting, a smaller one, which makes
--- the first of its operations
+-- the call is an edit of the world: the one that was asked for or, where memory ran out, a smaller one, which makes the
+-- first of its operations
 pub record IsWorldEdit (command : Command) (old new : State) (result : Result ℕ EditFault) : Type 0 where
   pub done : Command
   pub is : new ≡ replica_after_edit done old
@@ -36,7 +36,7 @@ pub record IsNoteCall (named : List Identifier) (code : ℕ) (body : List ℕ) (
   pub refused : RefusesNote old result
   pub unmade : OnErr result (new ≡ old)
 
--- the call is a noting of the world or, where memory was wanting, no event of it
+-- the call is a noting of the world or, where memory ran out, no event of it
 pub record IsNoting (named : List Identifier) (code : ℕ) (body : List ℕ) (old new : State) (result : Result ℕ EditFault) : Type 0 where
   pub is : result ≢ Err NoMemory → new ≡ replica_after_note named code body old
   pub unmade : result ≡ Err NoMemory → new ≡ old

@@ -39,7 +39,7 @@ pub record AreNew (replicas : List State) : Type 0 where
 abbrev pub effect : State → Command → List Op
 effect s command = elim (refusal_message s command) [ None ↦ made_by s command | Some fault ↦ [] ]
 
--- the replica behind an edit
+-- the replica after an edit
 abbrev pub replica_after_edit : Command → State → State
 replica_after_edit command s = with_ops s (effect s command)
 
@@ -48,11 +48,11 @@ abbrev pub note_effect : State → (named : List Identifier) → (code : ℕ) �
 note_effect s named code body =
     elim (note_refusal s) [ None ↦ if list_all (holds s.held.history) named then note_by s named code body ∷ [] else [] | Some fault ↦ [] ]
 
--- the replica behind a noting
+-- the replica after a noting
 abbrev pub replica_after_note : (named : List Identifier) → (code : ℕ) → (body : List ℕ) → State → State
 replica_after_note named code body s = with_ops s (note_effect s named code body)
 
--- the replica behind a delivery
+-- the replica after a delivery
 abbrev pub replica_after_delivery : Op → State → State
 replica_after_delivery op s = record s { held = intake s.hold s.most s.held op }
 
@@ -77,7 +77,7 @@ after_making w number makes =
       pool = pool_with w.pool (made_at number makes w.replicas);
     }
 
--- the world behind an event; only what was made can be delivered
+-- the world after an event; only what was made can be delivered
 abbrev pub after_event : World → Event → World
 after_event w (Edit number command) = after_making w number (λ (s : State). effect s command)
 after_event w (Noting number named code body) = after_making w number (λ (s : State). note_effect s named code body)
@@ -89,6 +89,6 @@ abbrev pub after_events : World → List Event → World
 after_events w [] = w
 after_events w (event ∷ events) = after_events (after_event w event) events
 
--- the world of replicas behind events, begun with nothing made
+-- the world of replicas after events, begun with nothing made
 abbrev pub world : List State → List Event → World
 world replicas events = after_events (record { replicas = replicas; pool = [] }) events

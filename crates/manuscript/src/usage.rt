@@ -17,7 +17,7 @@ enum Word {
     Passage(&'static str),
 }
 
-/// How a command is asked for: its name, how many words it needs behind that, what they may be, and how all is shown.
+/// How a command is asked for: its name, how many words it needs after that, what they may be, and how all is shown.
 struct Form {
     name: &'static str,
     least: usize,

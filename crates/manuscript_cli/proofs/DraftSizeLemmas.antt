@@ -22,7 +22,7 @@ taken_all (part ∷ parts) =
     omega (arith, sum_by-cons taken part parts, sum_by-cons (λ (p : Part). length (chars p.text)) (seen_part part) (map seen_part parts), taken_all parts)
 
 module _ (parts : List ReadPart) where
-  -- the parts before one have a place, and it and its letters have none behind them
+  -- the parts before one have a place, and it and its letters have none after them
   pub is_over : (at : ℕ) (d : ReadPart) (room letters : ℕ) → at < length parts → room + sum_by taken (take at parts) ≡ MOST_OPERATIONS
       → letters ≡ length (chars (get_or parts at d).text.now) → room ≤ letters → true ≡ is_too_large (map seen_part parts)
   is_over at d room letters there left long over =

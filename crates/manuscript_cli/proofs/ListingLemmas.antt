@@ -70,19 +70,19 @@ behind (suc k) [] x rest e = cc
 behind (suc k) (y ∷ xs) x rest e = behind k xs x rest e
 
 -- what is written of the entries from there on
-lines_behind : (h : List Op) (all : List Entry) (at : ℕ) (rest : List Entry) → Lawful h → drop at all ≡ rest → All (IsEntry h) rest
+lines_after : (h : List Op) (all : List Entry) (at : ℕ) (rest : List Entry) → Lawful h → drop at all ≡ rest → All (IsEntry h) rest
     → flat_map (counted_line all) (counted_from h at (entry_sections rest)) ≡ section_lines h (suc at) (entry_sections rest)
-lines_behind h all at [] w is each = refl
-lines_behind h all at (e ∷ rest) w is each =
+lines_after h all at [] w is each = refl
+lines_after h all at (e ∷ rest) w is each =
     let here = behind at all e rest is in
     let line : counted_line all (record { at = at; clusters = cluster_count h e.section }) ≡ list_line h (suc at) e.section =
     ap (λ o. elim o [ None ↦ [] | Some d ↦ entry_line at d (cluster_count h e.section) ]) here.0 ∙ line_is h at e w (All-head (IsEntry h) e rest each) in
-    (λ i. line i ++ lines_behind h all (suc at) rest w here.1 (All-tail (IsEntry h) e rest each) i)
+    (λ i. line i ++ lines_after h all (suc at) rest w here.1 (All-tail (IsEntry h) e rest each) i)
 
 -- all of them are the lines of the arrangement
 pub all_lines : (h : List Op) (entries : List Entry) → Lawful h → IsOutline h entries
     → flat_map (counted_line entries) (counted_from h 0 (entry_sections entries)) ≡ section_lines h 1 (arranged h)
-all_lines h entries w is = lines_behind h entries 0 entries w refl is.each ∙ ap (section_lines h 1) is.listed
+all_lines h entries w is = lines_after h entries 0 entries w refl is.each ∙ ap (section_lines h 1) is.listed
 
 -- sections are few
 pub few_numbers : (replica : Replica) → IsSound replica → (e : Entry) → IsEntry replica.held.history e → e.number < MOST_OPERATIONS
@@ -101,7 +101,7 @@ pub listed : (replica : Replica) (entries : List Entry) (counts : List Counted) 
 listed replica entries counts st is e =
     ap (λ l. replica_line replica ++ l) (ap (flat_map (counted_line entries)) e ∙ all_lines replica.held.history entries st.lawful is)
 
--- nine pieces, one behind the other
+-- nine pieces, one after the other
 pub nine_pieces : (a b c d e f g h i : List ℕ) → a ++ (b ++ (c ++ (d ++ (e ++ (f ++ (g ++ (h ++ i))))))) ≡ a ++ b ++ c ++ d ++ e ++ f ++ g ++ h ++ i
 nine_pieces a b c d e f g h i =
     sym

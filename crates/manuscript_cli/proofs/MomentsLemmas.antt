@@ -18,7 +18,7 @@ use Rattle.origin_model.specs.edits.State.{State as Replica}
 use Rattle.outer_ports.specs.disk.Disks.{DiskView}
 use Rattle.outer_ports.specs.disk.Moments.{History}
 use Rattle.replica_file.specs.Load.{Loads}
-use Rattle.replica_file.specs.Moments.{HasMoments, accepted_by, new_moment, moments_behind, moments_of}
+use Rattle.replica_file.specs.Moments.{HasMoments, accepted_by, new_moment, moments_after, moments_of}
 use Rattle.replica_file.specs.declared.load_file.End.{End}
 use Rattle.replica_file.proofs.MomentLemmas.{some_moments}
 use Rattle.command_kinds.proofs.ReportLemmas.{ReportsOnce}
@@ -49,7 +49,7 @@ batch_grows hold earlier batch =
       length-append grows.newer (held hold MOST_OPERATIONS (batch_ops earlier)).history,
     )
 
--- a moment, and those behind it
+-- a moment, and those after it
 rise_more : (before now to : ℕ) (moments : List ℕ) → before ≤ now → RiseTo now moments to → RiseTo before (new_moment before now ++ moments) to
 rise_more before now to moments grows rise = elim (cases_lt before now) [
   | inl less ↦ subst (λ (b : Bool). RiseTo before ((if b then now ∷ [] else []) ++ moments) to) (sym (lt-ltb before now less)) (less, rise)
@@ -58,12 +58,12 @@ rise_more before now to moments grows rise = elim (cases_lt before now) [
       subst (λ (b : Bool). RiseTo before ((if b then now ∷ [] else []) ++ moments) to) (sym (le-ltb before now not_less)) (subst (λ (n : ℕ). RiseTo n moments to) same rise)
 ]
 
-moments_rise : (hold : ℕ) (earlier batches : List Batch) → RiseTo (accepted_by hold earlier) (moments_behind hold earlier batches) (accepted_by hold (earlier ++ batches))
+moments_rise : (hold : ℕ) (earlier batches : List Batch) → RiseTo (accepted_by hold earlier) (moments_after hold earlier batches) (accepted_by hold (earlier ++ batches))
 moments_rise hold earlier [] = ap (accepted_by hold) (sym (append-nil earlier))
 moments_rise hold earlier (batch ∷ batches) =
     rise_more (accepted_by hold earlier) (accepted_by hold (earlier ++ batch ∷ [])) (accepted_by hold (earlier ++ batch ∷ batches))
-    (moments_behind hold (earlier ++ batch ∷ []) batches) (batch_grows hold earlier batch)
-    (subst (λ (l : List Batch). RiseTo (accepted_by hold (earlier ++ batch ∷ [])) (moments_behind hold (earlier ++ batch ∷ []) batches) (accepted_by hold l))
+    (moments_after hold (earlier ++ batch ∷ []) batches) (batch_grows hold earlier batch)
+    (subst (λ (l : List Batch). RiseTo (accepted_by hold (earlier ++ batch ∷ [])) (moments_after hold (earlier ++ batch ∷ []) batches) (accepted_by hold l))
     (append_assoc earlier (batch ∷ []) batches)
     (moments_rise hold (earlier ++ batch ∷ []) batches))
 

@@ -18,7 +18,7 @@ use Rattle.version_views.specs.declared.naming.VersionFault.TheVariants as fault
 use Rattle.manuscript_cli.specs.NamedVersions.{note_refused, version_on, version_refused}
 use Rattle.command_kinds.specs.Notes.{NoteComes, unless_refused}
 
--- a note is not refused for want of memory
+-- a note is not refused for lack of memory
 by_tests : (b c : Bool) (greatest held : ℕ) → (if b then Some (note_fault.IdsSpent greatest) else (if c then Some (note_fault.TooMany held) else None)) ≡ Some note_fault.NoMemory
     → ⊥
 by_tests true c greatest held e = cc e

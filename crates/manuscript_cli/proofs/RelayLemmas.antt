@@ -13,7 +13,7 @@ use Rattle.outer_ports.specs.declared.dock.MemStep.{MemStep}
 use Rattle.relay_core.specs.declared.relay.TheConstants.{MOST_LOGGED}
 use Rattle.relay_sync.specs.Sending.{DockRisesFor}
 use Rattle.relay_sync.specs.Serving.{BlamesDock, HaveCome, GaveSteps, Lasts, NoneAfter, Serves, ServesPartly, ServingStops, Spends, StopsInTurn, DockSuffices, ServedStep}
-use Rattle.relay_sync.specs.Serving.{closed_in, count_over, ended_in, ends_behind, sent_to, steps_of}
+use Rattle.relay_sync.specs.Serving.{closed_in, count_over, ended_in, ends_after, sent_to, steps_of}
 use Rattle.relay_sync.specs.declared.serving.ServeFault.{ServeFault}
 use Rattle.relay_sync.specs.declared.serving.ServeFault.TheVariants as serve_fault
 use Rattle.command_kinds.proofs.ActLemmas.{inside_result, performs_inside}
@@ -61,7 +61,7 @@ module _ (first second last : DockView) (idle : IsIdle first second) (later : fi
     sent = λ session. took_from session (sent_to session turns) (serves.sent session);
     ended = serves.ended ∙ ap (option_map (λ ended. ended ++ closed_in turns)) idle.ended;
     ended_at = serves.ended_at ∙ (λ i. ended_in (λ session. idle.nothing_sent.sent session i) (idle.ended_at i) turns);
-    ends = serves.ends ∙ ap (ends_behind (closed_in turns)) idle.ends;
+    ends = serves.ends ∙ ap (ends_after (closed_in turns)) idle.ends;
     listens = serves.listens ∙ idle.listens;
     later = omega (arith, later, serves.later);
     counts_no_fault = λ lasts. serves.counts_no_fault (lasts_on turns lasts) ∙ still_no_fault turns lasts;

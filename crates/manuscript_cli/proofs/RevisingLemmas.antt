@@ -155,11 +155,11 @@ longer_left input long =
     (long.front ++ more.0, more.1, omega (arith, long.long, length-append long.front more.0))
 
 -- what is read of the base decides as all of it
-same_front : (a b : List ℕ) (n : ℕ) → length a ≤ n → common_prefix_len nat_eq a (take n b) ≡ common_prefix_len nat_eq a b
-same_front [] b n l = refl
-same_front (x ∷ a) b zero l = absurd (omega (arith, l))
-same_front (x ∷ a) [] (suc n) l = refl
-same_front (x ∷ a) (y ∷ b) (suc n) l = ap (λ k. if nat_eq x y then 1 + k else 0) (same_front a b n (omega (arith, l)))
+common_prefix : (a b : List ℕ) (n : ℕ) → length a ≤ n → common_prefix_len nat_eq a (take n b) ≡ common_prefix_len nat_eq a b
+common_prefix [] b n l = refl
+common_prefix (x ∷ a) b zero l = absurd (omega (arith, l))
+common_prefix (x ∷ a) [] (suc n) l = refl
+common_prefix (x ∷ a) (y ∷ b) (suc n) l = ap (λ k. if nat_eq x y then 1 + k else 0) (common_prefix a b n (omega (arith, l)))
 
 -- whether both end at a place
 ends_with : (n a b c : ℕ) → c ≡ min (a + 1) b → (nat_eq n a && nat_eq n c) ≡ (nat_eq n a && nat_eq n b)
@@ -175,7 +175,7 @@ ends_with n a b c is =
 pub base_read : (a b : List ℕ) → first_difference a (take (length a + 1) b) ≡ first_difference a b
 base_read a b =
     let n : ℕ = common_prefix_len nat_eq a b in
-    ap (λ k. unless_whole k a (take (length a + 1) b)) (same_front a b (length a + 1) (omega arith))
+    ap (λ k. unless_whole k a (take (length a + 1) b)) (common_prefix a b (length a + 1) (omega arith))
     ∙ ap (λ t. if t then None else Some n) (ends_with n (length a) (length b) (length (take (length a + 1) b)) (length-take (length a + 1) b))
 
 -- a revised replica is an outcome

@@ -36,13 +36,13 @@ use Rattle.manuscript_cli.specs.RevisingSince.{revision_since, refusal_of_whole}
 use Rattle.manuscript_cli.specs.declared.revise.Revised.{Revised}
 use Rattle.replica_file.specs.Loading.{CanTake}
 use Rattle.manuscript_cli.proofs.RevisingLemmas.{revision_once}
-use Rattle.manuscript_cli.proofs.WholeLemmas.{comes_behind}
+use Rattle.manuscript_cli.proofs.WholeLemmas.{comes_after}
 
 abbrev fault_of_whole : Refusal → FeedFault → Refusal
 fault_of_whole why (feed_fault.TooMany limit) = why
 fault_of_whole why feed_fault.NoMemory = refusal.NoMemory
 
--- an operation that was not fed: one that is too many, or memory was wanting
+-- an operation that was not fed: one that is too many, or memory ran out
 abbrev fed_fault : FeedFault → Result Bool FeedFault
 fed_fault fault = Err fault
 
@@ -142,7 +142,7 @@ module _ (n : ℕ) (guest : Change DiskView) (input : Change SourceView) (replic
         → BringsRevision replica after past given result → GivesTo (revision_since n guest input finding) replica after kept (noted_revision result)
     brought_gives past after kept (Ok revised) (Ok brought) gave brings =
         let place = subst (MeetsNoLimit replica.hold replica.most replica.held) gave.saved brings.2 in
-        let behind = comes_behind n replica ready.settled ready.sound may gave.gives.2 gave.outcome gave.suffices gave.gives.4.2 place in
+        let behind = comes_after n replica ready.settled ready.sound may gave.gives.2 gave.outcome gave.suffices gave.gives.4.2 place in
         let outcome : Outcome = record gave.outcome { held = held_from replica.hold replica.most replica.held gave.outcome.saved } in
         subst (λ (r : Revised). GivesTo (revision_since n guest input finding) replica after kept (noted_revision (Ok r))) (sym brings.0)
         (subst (λ (s : Replica). GivesTo (revision_since n guest input finding) replica s kept (noted_revision (Ok revised))) (sym brings.1)

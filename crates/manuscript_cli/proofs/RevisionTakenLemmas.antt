@@ -18,7 +18,7 @@ use Rattle.catalogue_notes.specs.Lift.{stamp}
 use Rattle.catalogue_notes.specs.Making.{move_body, move_names, origins_for, retitle_body}
 use Rattle.catalogue_notes.specs.declared.limits.TheConstants.{MOVE_CODE, RETITLE_CODE}
 use Rattle.catalogue_notes.specs.Moving.{move_by, retitle_by, section_placed}
-use Rattle.draft_plan.specs.Changes.{PlanChange, MakesChanges, Edit, Move, Retitle, all_made, replica_behind, made_of}
+use Rattle.draft_plan.specs.Changes.{PlanChange, MakesChanges, Edit, Move, Retitle, all_made, replica_after, made_of}
 use Rattle.edit_script.proofs.TakenInLemmas.{all_find_place}
 use Rattle.edit_script.specs.Laws.{AreTakenIn}
 use Rattle.command_kinds.specs.Edit.{made_outcome}
@@ -52,7 +52,7 @@ change_unknown s (Retitle k title) = by (section_placed s k)
 all_unknown : (s : Replica) (changes : List PlanChange) → All (IsUnknown s.held.waiting) (all_made s changes)
 all_unknown s [] = All-nil (IsUnknown s.held.waiting)
 all_unknown s (change ∷ changes) =
-    All-append (IsUnknown s.held.waiting) (made_of s change) (all_made (replica_behind s change) changes) (change_unknown s change) (all_unknown (replica_behind s change) changes)
+    All-append (IsUnknown s.held.waiting) (made_of s change) (all_made (replica_after s change) changes) (change_unknown s change) (all_unknown (replica_after s change) changes)
 
 -- so a later load comes to the state in which the revision ended
 module _ (old new : Replica) (changes : List PlanChange) (settled : IsSettled old.held) (sound : IsSound new) (changed : MakesChanges old new changes) where

@@ -144,7 +144,7 @@ module _ (old new : Touched) (end : Status) (began stood : History) (began_is : 
         | inr (inr k) ↦ used (λ gave. gave ≡ []) k.reports.crash
       ]
 
--- the file behind a run is safe, and each list that it may have is one that it might have had with what the run brought
+-- the file after a run is safe, and each list that it may have is one that it might have had with what the run brought
 record Next (header : Header) (run : CommandRun) (ops more : List Op) (s : DiskState) : Type 0 where
   first : List Op
   second : List Op
@@ -228,7 +228,7 @@ run_next header ops more run s t safe leads =
     (family run.words run.command) run.meets in
     next header run ops more went.0 went.1 t leads.began leads.stood went.2 run.crash refl leads.behind
 
--- whatever is left of a safe file behind some runs has one of its lists, and then what they brought
+-- whatever is left of a safe file after some runs has one of its lists, and then what they brought
 pub record HasAll (header : Header) (runs : List CommandRun) (ops more : List Op) (image : List ℕ) : Type 0 where
   pub base : List Op
   pub one : IsOneOf ops more base

@@ -1,4 +1,4 @@
--- What was made on the replica as it was comes behind all that the whole has accepted.
+-- What was made on the replica as it was comes after all that the whole has accepted.
 use Rattle.std.proofs.Common.{Bool, List, [], ap, arith, cond, eqb-true, false, inl, inr, length, nat_eq, nat_lt, not, refl, subst, suc, sym, true, ℕ, ◌+◌, ◌++◌, ◌-◌, ◌||◌, ◌∙◌}
 use Rattle.std.proofs.Common.{◌∷◌, ◌≡◌, ◌≤◌, ◌⊎◌, take}
 use Rattle.std.specs.Prelude.{All, None, Option, Some, drop, flat_map, if◌then◌else◌, is_some, slice_get}
@@ -32,7 +32,7 @@ use Rattle.origin_model.proofs.edits.FreshIdLemmas.{BelowAll, IsUnknown, history
 use Rattle.origin_model.proofs.edits.MadeLemmas.{join_at_end}
 use Rattle.origin_model.proofs.edits.UndecidedLemmas.{Undecided, stays}
 use Rattle.catalogue_notes.specs.Moving.{move_by, retitle_by, section_placed}
-use Rattle.draft_plan.specs.Changes.{PlanChange, MakesChanges, Edit, Move, Retitle, all_made, replica_behind, made_of}
+use Rattle.draft_plan.specs.Changes.{PlanChange, MakesChanges, Edit, Move, Retitle, all_made, replica_after, made_of}
 use Rattle.version_views.specs.Fronts.{replica_at}
 use Rattle.version_views.specs.Views.{first_ops}
 use Rattle.version_views.proofs.ViewLemmas.{parts}
@@ -89,13 +89,13 @@ change_from s c (Retitle k title) l = by (section_placed s k)
     by (Some section) = All-cons (IsFrom s.number c) (retitle_by s section title) [] (inr (next_of_own s, refl, l)) (All-nil (IsFrom s.number c))
 
 -- the next counter does not fall
-above_behind : (xs ys : List ℕ) → above_all ys ≤ above_all (xs ++ ys)
-above_behind [] ys = omega arith
-above_behind (x ∷ xs) ys = let rest : above_all ys ≤ above_all (xs ++ ys) = above_behind xs ys in omega (arith, rest)
+above_after : (xs ys : List ℕ) → above_all ys ≤ above_all (xs ++ ys)
+above_after [] ys = omega arith
+above_after (x ∷ xs) ys = let rest : above_all ys ≤ above_all (xs ++ ys) = above_after xs ys in omega (arith, rest)
 
 next_joined : (r : ℕ) (op : Op) (h w : List Op) → next_counter r h w ≤ next_counter r (op ∷ h) w
 next_joined r op h w =
-    subst (λ l. next_counter r h w ≤ above_all l) (sym (counters-append r (op ∷ []) (h ++ w))) (above_behind (counters r (op ∷ [])) (counters r (h ++ w)))
+    subst (λ l. next_counter r h w ≤ above_all l) (sym (counters-append r (op ∷ []) (h ++ w))) (above_after (counters r (op ∷ [])) (counters r (h ++ w)))
 
 next_grows : (r : ℕ) (ops h w : List Op) → next_counter r h w ≤ next_counter r (history_with h ops) w
 next_grows r [] h w = omega arith
@@ -107,9 +107,9 @@ next_grows r (op ∷ ops) h w =
 all_from : (s : Replica) (c : ℕ) (changes : List PlanChange) → c ≤ next_of_own s → All (IsFrom s.number c) (all_made s changes)
 all_from s c [] l = All-nil (IsFrom s.number c)
 all_from s c (change ∷ changes) l =
-    let grows : next_of_own s ≤ next_of_own (replica_behind s change) = next_grows s.number (made_of s change) s.held.history s.held.waiting in
-    All-append (IsFrom s.number c) (made_of s change) (all_made (replica_behind s change) changes) (change_from s c change l)
-    (all_from (replica_behind s change) c changes (omega (arith, l, grows)))
+    let grows : next_of_own s ≤ next_of_own (replica_after s change) = next_grows s.number (made_of s change) s.held.history s.held.waiting in
+    All-append (IsFrom s.number c) (made_of s change) (all_made (replica_after s change) changes) (change_from s c change l)
+    (all_from (replica_after s change) c changes (omega (arith, l, grows)))
 
 -- operations below whose counter c is neither have nor name such an identifier
 unknown_from : (r c : ℕ) (ops : List Op) (op : Op) → BelowAll r c ops → IsFrom r c op → IsUnknown ops op
@@ -203,7 +203,7 @@ module _ (hold most : ℕ) (start w : List Op) where
             | inr f ↦ elim (b.own i (sym (holds-other op p i f) ∙ k)) [ inl a ↦ inl a | inr a ↦ inr (holds-older op h i a) ]
           ]
 
-  -- the answers of the whole, and the state behind them
+  -- the answers of the whole, and the state after them
   had_again : (p : List Op) (op : Op) → Undecided p w → has_op p op ≡ true → intake hold most (state_of p w) op ≡ state_of p w
   had_again p op u t =
       let is : answer hold most (state_of p w) op ≡ Again =
@@ -279,8 +279,8 @@ none_since true same n e = cc e
 none_since false true n e = refl
 none_since false false n e = cc e
 
-none_behind : (old : Held) → ComesAfterAccepted old [] old
-none_behind old =
+none_after : (old : Held) → ComesAfterAccepted old [] old
+none_after old =
     record {
       behind = sym (append-nil (accepted old.history));
       each = All-nil (λ op. has_op old.history op ≡ true);
@@ -303,10 +303,10 @@ module _ (n : ℕ) (replica : Replica) (settled : IsSettled replica.held) (sound
   next_same : next_of_own replica ≡ next_of_own past
   next_same = eqb-true (next_of_own replica) (next_of_own past) (none_since (nat_lt (length replica.held.history) n) (same_next replica past) n may)
 
-  changes_behind : (last : Replica) (changes : List PlanChange) → MakesChanges past last changes → Lawful last.held.history
+  changes_after : (last : Replica) (changes : List PlanChange) → MakesChanges past last changes → Lawful last.held.history
       → MeetsNoLimit replica.hold replica.most replica.held (all_made past changes)
       → ComesAfterAccepted replica.held (all_made past changes) (held_from replica.hold replica.most replica.held (all_made past changes))
-  changes_behind last changes changed lawful place =
+  changes_after last changes changed lawful place =
       let r : ℕ = replica.number in
       let c : ℕ = next_of_own replica in
       let old : List Op = replica.held.history in
@@ -327,9 +327,9 @@ module _ (n : ℕ) (replica : Replica) (settled : IsSettled replica.held) (sound
         waiting = refl;
       })
 
-  revises_behind : (draft : List ℕ) (outcome : Outcome) → Suffices past outcome → Revises past draft outcome → MeetsNoLimit replica.hold replica.most replica.held outcome.saved
+  revises_after : (draft : List ℕ) (outcome : Outcome) → Suffices past outcome → Revises past draft outcome → MeetsNoLimit replica.hold replica.most replica.held outcome.saved
       → ComesAfterAccepted replica.held outcome.saved (held_from replica.hold replica.most replica.held outcome.saved)
-  revises_behind draft outcome suffices revises place =
+  revises_after draft outcome suffices revises place =
       let makes = revises.revised.makes in
       let joined : accepted past.held.history ++ outcome.saved ≡ accepted past.held.history ++ all_made past makes.changes =
       ap (λ (o : Outcome). accepted past.held.history ++ o.saved) revises.outcome_is ∙ sym revises.made_are ∙ makes.changed.gained.accepted_are in
@@ -337,11 +337,11 @@ module _ (n : ℕ) (replica : Replica) (settled : IsSettled replica.held) (sound
       let held : held_from past.hold past.most past.held outcome.saved ≡ revises.last.held = suffices.same_state ∙ ap (λ (o : Outcome). o.held) revises.outcome_is in
       let lawful : Lawful revises.last.held.history = subst (λ (s : Held). Lawful s.history) held (held_lawful past.hold past.most past.held outcome.saved past_lawful) in
       subst (λ l. ComesAfterAccepted replica.held l (held_from replica.hold replica.most replica.held l)) (sym saved)
-      (changes_behind revises.last makes.changes makes.changed lawful (subst (MeetsNoLimit replica.hold replica.most replica.held) saved place))
+      (changes_after revises.last makes.changes makes.changed lawful (subst (MeetsNoLimit replica.hold replica.most replica.held) saved place))
 
-  pub comes_behind : (draft : List ℕ) (outcome : Outcome) → Suffices past outcome → IsHandedBack past draft outcome ⊎ Revises past draft outcome
+  pub comes_after : (draft : List ℕ) (outcome : Outcome) → Suffices past outcome → IsHandedBack past draft outcome ⊎ Revises past draft outcome
       → MeetsNoLimit replica.hold replica.most replica.held outcome.saved
       → ComesAfterAccepted replica.held outcome.saved (held_from replica.hold replica.most replica.held outcome.saved)
-  comes_behind draft outcome suffices (inl back) place =
-      subst (λ (o : Outcome). ComesAfterAccepted replica.held o.saved (held_from replica.hold replica.most replica.held o.saved)) (sym back.outcome_is) (none_behind replica.held)
-  comes_behind draft outcome suffices (inr revises) place = revises_behind draft outcome suffices revises place
+  comes_after draft outcome suffices (inl back) place =
+      subst (λ (o : Outcome). ComesAfterAccepted replica.held o.saved (held_from replica.hold replica.most replica.held o.saved)) (sym back.outcome_is) (none_after replica.held)
+  comes_after draft outcome suffices (inr revises) place = revises_after draft outcome suffices revises place

@@ -13,7 +13,7 @@ pub record WritesAlone (text : List ℕ) (output notes : Change OutView) (end : 
   pub writes : WritesOut text output notes end
   -- where the output is sure and has room, no outside fault comes
   pub never_outside : HasRoom (length text) output.old → end ≢ status.OutsideFault
-  -- all is done, but for want of memory and faults of the output
+  -- all is done, but for lack of memory and faults of the output
   pub decides : IsDecided status.Done (Faulted output.old.faults output.new.faults) end
 
 -- the name and the version of the program, what it was proved with, and its licence

@@ -40,7 +40,7 @@ pub record IsTextLonger (input : Change SourceView) : Type 0 where
   pub split : input.old.left ≡ prepend_known front input.new.left
   pub long : length front ≡ LONGEST_TEXT + 1
 
--- why no text was read: a read failed, or memory was wanting, or the input is too long
+-- why no text was read: a read failed, or memory ran out, or the input is too long
 abbrev pub HasNoInputText : Change SourceView → Refusal → Type 0
 HasNoInputText input refusal.Outside = Unit {0}
 HasNoInputText input refusal.NoMemory = Unit {0}
@@ -72,7 +72,7 @@ pub record NoTextRead (input : Change SourceView) (output notes : Change OutView
   pub noted : Reported notes.old notes.new (refusal_line why)
   pub end_is : end ≡ status_of why
 
--- behind a file that was loaded the text is read, and what it is is reported
+-- after a file that was loaded the text is read, and what it is is reported
 abbrev pub ChecksHeld : Change SourceView → Replica → (output notes : Change OutView) → Status → Type 0
 ChecksHeld input replica output notes end = HeldText input replica output notes end ⊎ NoTextRead input output notes end
 

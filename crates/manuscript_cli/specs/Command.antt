@@ -207,7 +207,7 @@ pub record IsCommand (words : List (List ℕ)) (command : Option Command) : Type
   pub named : IfSome command (Names words)
   pub only : (other : Command) → Names words other → command ≡ Some other
 
--- the file that a command is about, and the other file that it reads: the words behind its name
+-- the file that a command is about, and the other file that it reads: the words after its name
 abbrev pub home_word : Command → List (List ℕ) → Option (List ℕ)
 home_word (Show hold) words = None
 home_word (Relay port sessions) words = None

@@ -25,7 +25,7 @@ comment_refused k (fault.IdsSpent counter) = refusal.IdsSpent counter
 comment_refused k (fault.TooMany held) = refusal.TooMany held
 comment_refused k fault.NoMemory = refusal.NoMemory
 
--- the first and the last of so many scalars of a section, behind so many others that are shown
+-- the first and the last of so many scalars of a section, after so many others that are shown
 abbrev pub ends_of : Replica → Identifier → ℕ × ℕ → List Identifier
 ends_of replica s range =
     let scalars = shown (within s) replica.held.history in

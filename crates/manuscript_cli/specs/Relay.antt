@@ -49,7 +49,7 @@ pub record IsIdle (old new : DockView) : Type 0 where
   pub counts_no_fault : CallsAreSure old → new.faults ≡ old.faults
 
 -- A new relay was given the dock's steps, and served so many sessions: the last step brought the last of them to its
--- end, and none was asked for behind it.
+-- end, and none was asked for after it.
 pub record ServedAll (port sessions : ℕ) (dock : Change DockView) (logged : ℕ) : Type 0 where
   pub turns : List ServedStep
   pub relay : Relay
@@ -86,7 +86,7 @@ pub record ReadyFailed (port : ℕ) (output : Change OutView) (dock : Change Doc
   pub front : WroteFront ready_line output
   pub idle : IsIdle (listening port dock.old) dock.new
 
--- a call on the dock failed behind it
+-- a call on the dock failed after it
 pub record ServingFailed (port sessions : ℕ) (output : Change OutView) (dock : Change DockView) : Type 0 where
   pub ready : Took output.old output.new ready_line
   pub partly : ServedPartly serve_fault.DockFault port sessions dock

@@ -110,7 +110,7 @@ revised_outcome last made = record {
   status = status.Done;
 }
 
--- the outcome of another draft: these operations were made one after another, and what is shown behind them is the form
+-- the outcome of another draft: these operations were made one after another, and what is shown after them is the form
 -- of the draft's parts
 pub record Revises (replica : Replica) (draft : List ℕ) (outcome : Outcome) : Type 0 where
   pub other : draft ≢ arranged_text replica.held.history
@@ -174,7 +174,7 @@ pub record LooksAtBase (guest : Change DiskView) (end : Status) : Type 0 where
   pub counts_no_fault : IfSome guest.old.room (λ room. guest.new.faults ≡ guest.old.faults)
   pub blameless : DiskBlameless guest end
 
--- why the base was not found good: a read failed, or memory was wanting, or it is refused
+-- why the base was not found good: a read failed, or memory ran out, or it is refused
 abbrev pub BaseStops : Refusal → DiskView → List Op → Type 0
 BaseStops refusal.Outside guest h = Unit {0}
 BaseStops refusal.NoMemory guest h = Unit {0}

@@ -1,5 +1,5 @@
 -- `revise` with a number: the draft was written from what was shown when so many operations were accepted. It is
--- planned on the replica as it was then, and what it makes comes behind all that the file has.
+-- planned on the replica as it was then, and what it makes comes after all that the file has.
 use Rattle.std.specs.Prelude.{All, filter, true, ◌++◌, ◌≡◌, ℕ, nat_eq, nat_lt, not, ◌-◌, Bool, drop, if◌then◌else◌, Option, Some, None}
 use Rattle.std.specs.Prelude.{List, length, Result, Ok, Err}
 use Rattle.fugue_ids.specs.Identifiers.{Identifier}
@@ -31,7 +31,7 @@ use Rattle.manuscript_cli.specs.declared.revise.Revised.{Revised}
 abbrev pub same_next : Replica → Replica → Bool
 same_next one other = nat_eq (next_of_own one) (next_of_own other)
 
--- the replica made operations behind the first n: the counter of its next one is another than it was
+-- the replica made operations after the first n: the counter of its next one is another than it was
 abbrev pub made_since : ℕ → Replica → Bool
 made_since n replica = not (same_next replica (replica_at n replica))
 
@@ -63,7 +63,7 @@ MomentDecidesAlone n home guest input = RefusesMoment n home → (input.new ≡ 
 abbrev pub lacking_ops : List Op → List Op → List Op
 lacking_ops history ops = filter (λ op. not (has_op history op)) ops
 
--- what was made is all accepted, behind what was accepted before, which lacked all of it but Deletes that others made
+-- what was made is all accepted, after what was accepted before, which lacked all of it but Deletes that others made
 -- too; what waits is what waited
 pub record ComesAfterAccepted (old : Held) (made : List Op) (new : Held) : Type 0 where
   pub behind : accepted new.history ≡ accepted old.history ++ lacking_ops old.history made
@@ -72,7 +72,7 @@ pub record ComesAfterAccepted (old : Held) (made : List Op) (new : Held) : Type 
   pub waiting : new.waiting ≡ old.waiting
 
 -- what comes in the whole of what a draft gives to the replica as it was: what it makes is saved as it is, and taken in
--- behind all that the whole holds, if there is room for it
+-- after all that the whole holds, if there is room for it
 abbrev pub ComesInWhole : Replica → (given found : Finding Outcome) → Type 0
 ComesInWhole replica (Refuses why) found = found ≡ Refuses (refusal_of_whole replica why)
 ComesInWhole replica (Does outcome) (Does whole) =
@@ -105,7 +105,7 @@ noted_revision (Err why) = Err why
 abbrev pub made_last : Replica → Revised → List Op
 made_last past revised = drop (length (accepted past.held.history) - revised.made) (accepted past.held.history)
 
--- an operation is one too many, or memory was wanting
+-- an operation is one too many, or memory ran out
 abbrev pub HasNoPlaceFor : FeedFault → Replica → List Op → Type 0
 HasNoPlaceFor (feed_fault.TooMany limit) replica ops = IsOneTooMany replica ops
 HasNoPlaceFor feed_fault.NoMemory replica ops = Unit {0}

@@ -53,7 +53,7 @@ abbrev pub AllBrought : List CommandRun → List Op → Type 0
 AllBrought [] ops = ops ≡ []
 AllBrought (run ∷ runs) ops = (first : List Op) × (others : List Op) × Brought run first × AllBrought runs others × (ops ≡ first ++ others)
 
--- the file behind a run: as it stood at the end, or at rest with what a crash at a moment since the beginning left
+-- the file after a run: as it stood at the end, or at rest with what a crash at a moment since the beginning left
 abbrev pub StandsAfterRun : Option (List ℕ) → (began stood : History) → DiskState → Type 0
 StandsAfterRun None began stood s = s ≡ stood.last
 StandsAfterRun (Some image) began stood s = LeftSince stood (moment_number began) image × (s ≡ at_rest image)

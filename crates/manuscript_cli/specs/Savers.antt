@@ -59,7 +59,7 @@ sync_saver port cursor old new = record {
 abbrev pub note_saver : NoteOn → Touched → Touched → Saver
 note_saver note_on old new = record { ops_source = note_source note_on; Leaves = λ end. Unit {0}; others = old }
 
--- `revise`: the input gives a draft of what the other file has, by the finding that was come to
+-- `revise`: the input gives a draft of what the other file has, as its finding says
 abbrev pub revise_saver : Finding Outcome → Touched → Touched → Saver
 revise_saver finding old new = record {
   ops_source = revision (change old.guest new.guest) (change old.streams.input new.streams.input) finding;

@@ -41,7 +41,7 @@ pub(crate) fn check_file<S: Source, O: Sink, N: Sink, H: Disk>(
     }
 }
 
-/// The same behind a file that was loaded.
+/// The same after a file that was loaded.
 fn check_held<S: Source, O: Sink, N: Sink>(
     alloc: Global,
     input: &mut S,
@@ -109,7 +109,7 @@ pub(crate) fn read_text<S: Source>(alloc: Global, source: &mut S) -> Result<Vec<
     Err(Refusal::TooLong)
 }
 
-/// Puts the source's next bytes behind a text, one past the limit at most, and answers how many came.
+/// Puts the source's next bytes after a text, one past the limit at most, and returns how many came.
 fn read_piece<S: Source>(text: &mut Vec<u8>, source: &mut S) -> Result<usize, Refusal>
     requires { length text.old.items ≤ LONGEST_TEXT }
     ensures bytes { IfOk result
@@ -128,7 +128,7 @@ fn read_piece<S: Source>(text: &mut Vec<u8>, source: &mut S) -> Result<usize, Re
     }
 }
 
-/// Puts bytes behind a text.
+/// Puts bytes after a text.
 fn append(text: &mut Vec<u8>, bytes: &[u8]) -> Result<(), NoMemory>
     ensures { OnOk result (text.new.items ≡ text.old.items ++ bytes.now) }
 {

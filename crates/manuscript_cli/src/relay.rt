@@ -37,7 +37,7 @@ pub(crate) fn relay<O: Sink, N: Sink, D: Dock, B: BuildHasher + Drop>(
     }
 }
 
-/// Listens and serves by a relay that is new. The answer is how many frames its log has then.
+/// Listens and serves by a relay that is new. Returns how many frames its log has then.
 fn served<O: Sink, D: Dock, B: BuildHasher + Drop>(
     alloc: Global,
     port: u16,

@@ -63,7 +63,7 @@ impl<'a, G: Disk, S: Source> Gives<DraftSources<'a, G, S>> for RevisionSince {
 }
 
 /// Revises what the home file showed when so many operations were accepted until that is the draft on the input, and
-/// saves the operations that took behind all that the file has. The other file has the text that the draft was written
+/// saves the operations that took after all that the file has. The other file has the text that the draft was written
 /// from.
 pub(crate) fn revise_file_since<S: Source, N: Sink, H: Disk, G: Disk>(
     alloc: Global,

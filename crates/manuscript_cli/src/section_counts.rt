@@ -88,7 +88,7 @@ fn count_of(replica: &Replica, ops: &OpSlice<'_>, change: SectionChange) -> u32
     count
 }
 
-/// How many of the operations behind so many accepted ones add, drop, move and retitle a section.
+/// How many of the operations after so many accepted ones add, drop, move and retitle a section.
 pub(crate) fn section_counts(replica: &Replica, before: usize) -> SectionCounts
     ensures { result ≡ counts_in replica.now.held.history (drop before (accepted replica.now.held.history)) }
 {

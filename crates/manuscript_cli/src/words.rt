@@ -38,7 +38,7 @@ const GREATEST_REMARK: u32 = u32::MAX;
 /// How many sessions a relay serves at most.
 const MOST_SESSIONS: u32 = 65_535;
 
-/// Reads the words of the command line. None is the answer where they are those of no command.
+/// Reads the words of the command line. Returns None where they are those of no command.
 pub fn read_words(words: &[String]) -> Option<Command>
     ensures { IsCommand (map string_bytes words.now) result }
 {
@@ -48,7 +48,7 @@ pub fn read_words(words: &[String]) -> Option<Command>
     }
 }
 
-/// Reads a command's name, and the words behind it.
+/// Reads a command's name, and the words after it.
 fn read_command(name: &str, rest: &[String]) -> Option<Command>
     ensures { IsCommand (name.now ∷ map string_bytes rest.now) result }
 {

@@ -79,9 +79,9 @@ module _ (R : Identifier → Identifier → Bool) (irrefl : (a : Identifier) →
   none_first : (x : Identifier) (xs : List Identifier) → AllPairs T (x ∷ xs) → All (λ y. R y x ≡ false) (x ∷ xs)
   none_first x xs o = All-cons (λ y. R y x ≡ false) x xs (irrefl x) (All-weaker (T x) (λ y. R y x ≡ false) (not_back x) xs (all_pairs_head T x xs o))
 
-  -- what stands behind the first is another
-  behind_other : (e : Identifier) (es : List Identifier) (x : Identifier) → AllPairs T (e ∷ es) → Contains es x → x ≡ e → ⊥
-  behind_other e es x o c d = true≢false (sym (All-contains (T e) es x (all_pairs_head T e es o) c) ∙ ap (R e) d ∙ irrefl e)
+  -- what stands after the first is another
+  after_other : (e : Identifier) (es : List Identifier) (x : Identifier) → AllPairs T (e ∷ es) → Contains es x → x ≡ e → ⊥
+  after_other e es x o c d = true≢false (sym (All-contains (T e) es x (all_pairs_head T e es o) c) ∙ ap (R e) d ∙ irrefl e)
 
   -- as many members stand before one as there are in front of it
   pub count_at : (xs : List Identifier) (i : ℕ) (x : Identifier) → AllPairs T xs → slice_get xs i ≡ Some x → count_by (λ y. R y x) xs ≡ i
@@ -159,7 +159,7 @@ module _ (R : Identifier → Identifier → Bool) (irrefl : (a : Identifier) →
       elim (cases_id x b) [
         | inl d ↦
             count-yes (λ y. id_eq y b || R y b) x xs (ap (λ t. t || R x b) (eq-id_eq x b d))
-            ∙ ap suc (not_up_to (λ y. R y b) b xs (λ k. behind_other x xs b o k (sym d))
+            ∙ ap suc (not_up_to (λ y. R y b) b xs (λ k. after_other x xs b o k (sym d))
             ∙ sym (count-no (λ y. R y b) x xs (ap (λ z. R z b) d ∙ irrefl b)))
         | inr d ↦
             let m : Contains xs b = in_back x xs b (λ e. d (sym e)) c in

@@ -20,7 +20,7 @@ filter-swap f g xs = filter-both g f xs ∙ (λ i. filter (λ x. and_comm (g x) 
 abbrev pub IsCut : (Identifier → Bool) → List Identifier → Type 0
 IsCut q xs = AllPairs (λ x y. q y ≡ true → q x ≡ true) xs
 
--- behind one that fails all fail
+-- after one that fails all fail
 all_fail : (q : Identifier → Bool) (x : Identifier) (xs : List Identifier) → IsCut q (x ∷ xs) → q x ≡ false → All (λ y. q y ≡ false) xs
 all_fail q x xs c k =
     All-weaker (λ y. q y ≡ true → q x ≡ true) (λ y. q y ≡ false)

@@ -13,7 +13,7 @@ use Rattle.margin_notes.specs.declared.commenting.CommentFault.TheVariants.{NoSe
 use Rattle.margin_notes.specs.Commenting.{HasNoRange, IsSectionPassage, RefusesComment, as_comment_fault, clusters_of, comment_refusal, range_refusal}
 use Rattle.fugue_ids.proofs.OptionLemmas.{err_inj, failed}
 
--- a refusal that is the cause, or want of memory
+-- a refusal that is the cause, or an allocation failure
 abbrev Comes : Result ℕ CommentFault → Option CommentFault → Type 0
 Comes result cause = IfSome cause (λ fault. (result ≡ Err fault) ⊎ (result ≡ Err NoMemory))
 
@@ -51,7 +51,7 @@ tells_section s k at n NoMemory e = ((λ r. let d : NoMemory ≡ NoSection = err
 tells_section s k at n (IdsSpent c) e = absurd e
 tells_section s k at n (TooMany c) e = absurd e
 
--- a note is not refused for want of memory
+-- a note is not refused for lack of memory
 not_for_memory : (s : State) (fault : EditFault) → note_refusal s ≡ Some fault → fault ≢ edit.NoMemory
 not_for_memory s fault e d = by (nat_lt 0 1 && nat_lt (2 ^ 32) (next_of_own s + 1)) (nat_lt s.most (held_count s + 1)) (ap (λ z. z) e ∙ ap Some d)
   where

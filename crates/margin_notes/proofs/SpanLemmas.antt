@@ -68,7 +68,7 @@ module _ (p : Place) (h : List Op) (w : Lawful h) (a b : Identifier) (in_a : IsI
   lower : filter is_before upper ≡ filter is_before (shown p h)
   lower = filter-both is_up_to is_before (shown p h) ∙ (λ i. filter (λ x. and_right (is_before x) (is_up_to x) (before_up_to x) i) (shown p h))
 
-  -- one that is a or behind it is one that is not before it
+  -- one that is a or after it is one that is not before it
   not_before : (x : Identifier) → IsIn p h x → (id_eq a x || before p h a x) ≡ not (is_before x)
   not_before x m =
       elim (cases_Bool (id_eq a x)) [

@@ -44,7 +44,7 @@ range_refusal s x at n =
 abbrev pub comment_refusal : State → (k at n : ℕ) → Option CommentFault
 comment_refusal s k at n = elim (section_shown s k) [ None ↦ Some NoSection | Some x ↦ range_refusal s x at n ]
 
--- a refusal comes with its cause alone, and where there is a cause, its refusal comes, or want of memory
+-- a refusal comes with its cause alone, and where there is a cause, its refusal comes, or an allocation failure
 pub record RefusesComment (s : State) (k at n : ℕ) (result : Result ℕ CommentFault) : Type 0 where
   pub only : (fault : CommentFault) → fault ≢ NoMemory → result ≡ Err fault → comment_refusal s k at n ≡ Some fault
   pub always : IfSome (comment_refusal s k at n) (λ fault. (result ≡ Err fault) ⊎ (result ≡ Err NoMemory))

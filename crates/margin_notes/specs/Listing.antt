@@ -98,7 +98,7 @@ entry_bytes ops e = decimal e.number ++ 32 ∷ decimal e.from ++ 32 ∷ decimal 
 abbrev pub line_of_entry : List Op → Entry → CommentLine
 line_of_entry ops e = record { number = e.number; id = e.id; bytes = entry_bytes ops e }
 
--- the text goes out, or the output fails with a front of it gone out, or memory is wanting and nothing went out
+-- the text goes out, or the output fails with a front of it gone out, or memory runs out and nothing went out
 abbrev pub WritesMargins : OutView → OutView → Result (Unit {0}) MarginFault → List ℕ → Type 0
 WritesMargins old new (Ok done) text = WritesBytes {E = Failed} {T = Unit {0}} old new (Ok done) text
 WritesMargins old new (Err SinkFault) text = WritesBytes {E = Failed} {T = Unit {0}} old new (Err (record {})) text

@@ -89,8 +89,8 @@ fn find_names(replica: &Replica, section: usize, at: u32, n: u32) -> Result<Note
     Ok(names)
 }
 
-/// Comments on n clusters, from the cluster `at` on, of the section with so many visible ones before it. The answer is
-/// 1, the number of operations that were made.
+/// Comments on n clusters, from the cluster `at` on, of the section with so many visible ones before it. Returns 1, the
+/// number of operations that were made.
 pub fn comment(
     replica: &mut Replica,
     section: usize,

@@ -1,4 +1,4 @@
--- Two authors put a letter each behind the one letter of a section: the premises of `drafts_merge` hold, and both letters are shown.
+-- Two authors put a letter each after the one letter of a section: the premises of `drafts_merge` hold, and both letters are shown.
 use Rattle.std.proofs.Common.{List, [], ap, arith, false, get_or, inl, inr, nat_eq, refl, subst, sym, true, ℕ, ◌++◌, ◌∙◌, ◌∷◌, ◌≡◌, ◌⊎◌}
 use Rattle.std.specs.Prelude.{None, Some, codes, if◌then◌else◌, is_some}
 use Rattle.std.proofs.lemmas.Bool.{cases_Bool, cases_order, false≢true, ne_eqb, or_cases, or_left, or_right}
@@ -42,7 +42,7 @@ letter_b = Text b section (Some x) None 98
 abbrev whole : List Op
 whole = letter_b ∷ letter_a ∷ base
 
--- a letter comes behind the one that is there
+-- a letter comes after the one that is there
 abbrev hunks : List Hunk
 hunks = record { old_at = 1; old_len = 0; new_at = 1; new_len = 1 } ∷ []
 
@@ -131,7 +131,7 @@ together = record {
   ];
 }
 
--- and the section reads both behind the old one
+-- and the section reads both after the old one
 reads : text whole section ≡ codes "xab"
 unfolding before chain order verdict
 reads = refl

@@ -70,7 +70,7 @@ module _ (puts : ℕ → List Identifier) (gone : Identifier → Bool) where
         | inr k ↦ Contains-append_right (left_of_it gone c) (merged puts gone (i + 1) cs) z (merged_stays (i + 1) cs z k e)
       ])
 
--- what is put at a position stands behind all that is in front of it, and before all others
+-- what is put at a position stands after all that is in front of it, and before all others
 abbrev pub StandsAt : (R : Identifier → Identifier → Bool) (front back : List Identifier) → Identifier → Type 0
 StandsAt R front back x = ((e : Identifier) → Contains front e → R e x ≡ true) × ((e : Identifier) → Contains back e → R x e ≡ true)
 
@@ -82,7 +82,7 @@ module _ (R : Identifier → Identifier → Bool) (trans : (x y z : Identifier) 
   abbrev T : Identifier → Identifier → Type 0
   T x y = R x y ≡ true
 
-  -- a member of the list stands before what is behind it
+  -- a member of the list stands before what is after it
   across : (front back : List Identifier) → S ≡ front ++ back → (x y : Identifier) → Contains front x → Contains back y → R x y ≡ true
   across front back e x y m n =
       All-contains (T x) back y (All-contains (λ a. All (T a) back) front x (all_pairs_across T front back (subst (AllPairs T) e sorted)) m) n
@@ -106,7 +106,7 @@ module _ (R : Identifier → Identifier → Bool) (trans : (x y z : Identifier) 
         ]
       ]
 
-  -- a member stands before what is merged behind it
+  -- a member stands before what is merged after it
   next : (front : List Identifier) (c : Identifier) (cs : List Identifier) → S ≡ front ++ c ∷ cs → (i : ℕ) → i ≡ length front → (z : Identifier)
       → Contains (merged puts gone (i + 1) cs) z → R c z ≡ true
   next front c cs s i l z m =

@@ -8,7 +8,7 @@ use Rattle.fugue_ids.specs.Identifiers.{Identifier}
 use Rattle.fugue_ids.specs.Listed.{last_before}
 use Rattle.fugue_ids.specs.declared.op.Op.{Op}
 use Rattle.fugue_ids.proofs.IdentifierLemmas.{not_some}
-use Rattle.fugue_ids.proofs.ListLemmas.{all_from_contains, all_pairs_across, all_pairs_append, all_pairs_before, all_pairs_behind, all_pairs_head, all_pairs_tail, contains_cases}
+use Rattle.fugue_ids.proofs.ListLemmas.{all_from_contains, all_pairs_across, all_pairs_append, all_pairs_before, all_pairs_after, all_pairs_head, all_pairs_tail, contains_cases}
 use Rattle.fugue_ids.proofs.ListLemmas.{contains_here, contains_middle_cases, contains_none, contains_there}
 use Rattle.origin_model.specs.declared.operations.Place.{Place}
 use Rattle.origin_model.specs.edits.Passages.{GoesForward, Relation}
@@ -18,11 +18,11 @@ use Rattle.origin_model.specs.order.Laws.{IsIn, IsPartOf}
 use Rattle.origin_model.specs.order.Order.{Passes, before, left_at, lefts, next_left, order}
 use Rattle.origin_model.proofs.SharedLemmas.{IsIn-held, Ordered-agree, Within-part, chain_above, lefts-above, lefts-in, lefts-within, order_total, parts_keep_order}
 use Rattle.origin_model.proofs.edits.PassageLemmas.{together}
-use Rattle.merged_words.specs.Drafts.{IsDirectlyBehind}
+use Rattle.merged_words.specs.Drafts.{IsDirectlyAfter}
 use Rattle.merged_words.proofs.ListLemmas.{StandsAt}
 use Rattle.origin_model.proofs.edits.SplitLemmas.{end_in}
 
--- it is a given member, or stands behind it
+-- it is a given member, or stands after it
 abbrev pub IsAtEnd : Relation → List Identifier → Identifier → Type 0
 IsAtEnd R xs z = (l : Identifier) × (last_before xs ≡ Some l) × ((z ≡ l) ⊎ (R z l ≡ true))
 
@@ -104,7 +104,7 @@ module _ (p : Place) (whole : List Op) (w : Lawful whole) where
     first_here : IsIn p whole x
     first_here = here x (contains_here x xs)
 
-    -- what stands behind the first and hangs on nothing of it stands behind all
+    -- what stands after the first and hangs on nothing of it stands after all
     pub all_before : (e : Identifier) → IsIn p whole e → (Contains (x ∷ xs) e → ⊥) → (Passes (lefts whole x) (lefts whole e) → ⊥) → R x e ≡ true → (z : Identifier)
         → Contains (x ∷ xs) z → R z e ≡ true
     all_before e m other n a z k =
@@ -129,10 +129,10 @@ module _ (p : Place) (whole : List Op) (w : Lawful whole) where
           | inr j ↦ (order_total p whole w).transitive e x z a (All-contains (T x) xs z (all_pairs_head T x xs ordered) j)
         ]
 
-    -- it stands behind what is in front of it in the base, and before all others of the base
+    -- it stands after what is in front of it in the base, and before all others of the base
     pub stands : (base : List Op) (u : Lawful base) (b : IsPartOf base own) (c : IsPartOf base whole) (front back : List Identifier) → AllPairs T (front ++ back)
         → ((e : Identifier) → Contains (front ++ back) e → IsIn p base e) → ((e : Identifier) → Contains (x ∷ xs) e → holds base e ≡ false)
-        → IsDirectlyBehind p own (last_before front) x → (z : Identifier) → Contains (x ∷ xs) z → StandsAt R front back z
+        → IsDirectlyAfter p own (last_before front) x → (z : Identifier) → Contains (x ∷ xs) z → StandsAt R front back z
     stands base u b c front back sorted old fresh d z k = (
       λ e m. before_all e (in_front e m) z k,
       λ e m. all_before e (in_whole p base whole w c e (of_back e m)) (λ n. false≢true (sym (fresh e n) ∙ IsIn-held p base e (of_back e m)))
@@ -167,7 +167,7 @@ module _ (p : Place) (whole : List Op) (w : Lawful whole) where
                     let l = at_end R d.0 e (all_pairs_before T d.0 (x ∷ d.1) own_ordered) j in
                     let turn : R l.0 e ≡ true = across front back sorted l.0 e (end_in front l.0 (sym d.3 ∙ l.1)) m in
                     absurd (elim l.2 [ inl q ↦ true≢false (sym turn ∙ ap (R l.0) q ∙ (order_total p whole w).irreflexive l.0) | inr q ↦ no_loop l.0 e turn q ])
-                | inr j ↦ All-contains (T x) d.1 e (all_pairs_head T x d.1 (all_pairs_behind T d.0 (x ∷ d.1) own_ordered)) j
+                | inr j ↦ All-contains (T x) d.1 e (all_pairs_head T x d.1 (all_pairs_after T d.0 (x ∷ d.1) own_ordered)) j
               ]
             ]
 
@@ -177,7 +177,7 @@ goes_first R [] ys = true
 goes_first R (x ∷ xs) [] = true
 goes_first R (x ∷ xs) (y ∷ ys) = R x y
 
--- both, one behind the other
+-- both, one after the other
 abbrev pub both : Relation → (xs ys : List Identifier) → List Identifier
 both R xs ys = if goes_first R xs ys then xs ++ ys else ys ++ xs
 

@@ -9,7 +9,7 @@ use Rattle.std.proofs.Math.Seq.{drop-append_seam, take-append_seam}
 use Rattle.std.proofs.lemmas.List.Elements.{All-contains, Contains-append_cases, Contains-append_left, Contains-append_right}
 use Rattle.fugue_ids.specs.Identifiers.{Identifier}
 use Rattle.fugue_ids.specs.declared.op.Op.{Op}
-use Rattle.fugue_ids.proofs.ListLemmas.{all_from_contains, all_pairs_across, all_pairs_append, all_pairs_before, all_pairs_behind, all_pairs_nil, contains_cases, contains_here}
+use Rattle.fugue_ids.proofs.ListLemmas.{all_from_contains, all_pairs_across, all_pairs_append, all_pairs_before, all_pairs_after, all_pairs_nil, contains_cases, contains_here}
 use Rattle.fugue_ids.proofs.ListLemmas.{contains_none, contains_there}
 use Rattle.origin_model.specs.operations.History.{holds}
 use Rattle.text_diff.specs.Hunks.{Transforms, TransformsFrom, hunk_start}
@@ -107,16 +107,16 @@ module _ (F : List Op) (S : List Identifier) where
   abbrev pub StaysAt : List Hunk → ℕ → Identifier → Type 0
   StaysAt hs from z = (j : ℕ) × (from ≤ j) × (j < length S) × (get_or S j z ≡ z) × (HasCut hs j → ⊥)
 
-  -- what stands behind a position
-  behind_at : (from : ℕ) (z : Identifier) (k : ℕ) → k < length (drop from S) → get_or (drop from S) k z ≡ z → (from + k < length S) × (get_or S (from + k) z ≡ z)
-  behind_at from z k l e = (omega (arith, l, length-drop from S), sym (get_or-drop from S k z) ∙ e)
+  -- what stands after a position
+  after_at : (from : ℕ) (z : Identifier) (k : ℕ) → k < length (drop from S) → get_or (drop from S) k z ≡ z → (from + k < length S) × (get_or S (from + k) z ≡ z)
+  after_at from z k l e = (omega (arith, l, length-drop from S), sym (get_or-drop from S k z) ∙ e)
 
   -- each member of the new list comes, or stays
   pub members : (from new_from : ℕ) (L : List Identifier) (hs : List Hunk) (st : StayBetween F from S L hs) → Follow (length S) from new_from hs → (z : Identifier) → Contains L z
       → ((i : ℕ) × Contains (comes_at F from S L hs st i) z) ⊎ StaysAt hs from z
   members from new_from L [] st f z m =
       let k = subst (λ l. Contains l z) st m in
-      let o = behind_at from z k.0 k.1 k.2 in
+      let o = after_at from z k.0 k.1 k.2 in
       inr (from + k.0, omega arith, o.0, o.1, λ c. contains_none c.0 c.1)
   members from new_from L (h ∷ hs) st f z m =
       let d : ℕ = h.old_at - from in
@@ -128,7 +128,7 @@ module _ (F : List Op) (S : List Identifier) where
       elim (Contains-append_cases front (st.0 ++ st.1) z (subst (λ l. Contains l z) (st.4 ∙ append_assoc front st.0 st.1) m)) [
         | inl k ↦
             let short : k.0 < d = omega (arith, k.1, length-take-le d (drop from S) fits) in
-            let o = behind_at from z k.0 (omega (arith, short, fits)) (sym (get_or-take d (drop from S) k.0 z short) ∙ k.2) in
+            let o = after_at from z k.0 (omega (arith, short, fits)) (sym (get_or-take d (drop from S) k.0 z short) ∙ k.2) in
             inr (
               from + k.0,
               omega arith,
@@ -192,11 +192,11 @@ module _ (F : List Op) (S : List Identifier) where
   comes_ordered T from L [] st o i = all_pairs_nil T
   comes_ordered T from L (h ∷ hs) st o i =
       let front : List Identifier = take (h.old_at - from) (drop from S) in
-      let behind : AllPairs T (st.0 ++ st.1) = all_pairs_behind T front (st.0 ++ st.1) (subst (AllPairs T) (st.4 ∙ append_assoc front st.0 st.1) o) in
+      let behind : AllPairs T (st.0 ++ st.1) = all_pairs_after T front (st.0 ++ st.1) (subst (AllPairs T) (st.4 ∙ append_assoc front st.0 st.1) o) in
       let here : List Identifier = if nat_eq h.old_at i then st.0 else [] in
       let more : List Identifier = comes_at F (h.old_at + h.old_len) S st.1 hs st.5 i in
       all_pairs_append T here more (by_test (nat_eq h.old_at i) st.0 (all_pairs_before T st.0 st.1 behind))
-      (comes_ordered T (h.old_at + h.old_len) st.1 hs st.5 (all_pairs_behind T st.0 st.1 behind) i)
+      (comes_ordered T (h.old_at + h.old_len) st.1 hs st.5 (all_pairs_after T st.0 st.1 behind) i)
       (all_from_contains (λ x. All (T x) more) here (λ x m. all_from_contains (T x) more (λ z n.
       All-contains (T x) st.1 z (All-contains (λ a. All (T a) st.1) st.0 x (all_pairs_across T st.0 st.1 behind) (in_if (nat_eq h.old_at i) st.0 x m).1)
       (comes_in (h.old_at + h.old_len) st.1 hs st.5 i z n).0)))

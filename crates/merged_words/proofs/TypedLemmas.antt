@@ -8,7 +8,7 @@ use Rattle.fugue_ids.proofs.IdentifierLemmas.{id_eq-refl}
 use Rattle.origin_model.specs.declared.operations.Place.{Place}
 use Rattle.origin_model.specs.declared.operations.Place.TheVariants.{Section as within}
 use Rattle.origin_model.specs.edits.Edits.{Put, ReadyInTurn, history_with, id_at, left_for, made, next_counter, put_in, right_for, typed_texts, typed_ids}
-use Rattle.origin_model.specs.edits.Landing.{StandsBehind}
+use Rattle.origin_model.specs.edits.Landing.{StandsAfter}
 use Rattle.origin_model.specs.edits.Passages.{GoesForward}
 use Rattle.origin_model.specs.operations.History.{holder}
 use Rattle.origin_model.specs.operations.Verdict.{Lawful}
@@ -23,7 +23,7 @@ holder_stays : (ops h : List Op) (x : Identifier) (op : Op) → Lawful h → Rea
 holder_stays [] h x op w ready e = e
 holder_stays (next ∷ ops) h x op w ready e = holder_stays ops (next ∷ h) x op (ready.0, w) ready.1 (Within-append (next ∷ []) h (ready.0, w) x op e)
 
--- typed texts behind an element have each the one before as left origin
+-- typed texts after an element have each the one before as left origin
 typed_forward : (r c : ℕ) (s x : Identifier) (right : Option Identifier) (chs : List ℕ) (h : List Op) → Lawful h → ReadyInTurn h (typed_texts r c s (Some x) right chs)
     → GoesForward (within s) (history_with h (typed_texts r c s (Some x) right chs)) x (typed_ids r c chs)
 typed_forward r c s x right [] h w ready = tt
@@ -34,9 +34,9 @@ typed_forward r c s x right (ch ∷ chs) h w ready =
     let held : holder (history_with (op ∷ h) rest) id ≡ Some op = holder_stays rest (op ∷ h) id op (ready.0, w) ready.1 (holder-own op h id (id_eq-refl id)) in
     (record { op = op; held = held; place = text_here id s (Some x) right ch }, ap left_by held, typed_forward r (suc c) s id right chs (op ∷ h) (ready.0, w) ready.1)
 
--- typed texts that stand behind an element are put in one go
+-- typed texts that stand after an element are put in one go
 typed_at_once : (r c : ℕ) (s : Identifier) (left right : Option Identifier) (chs : List ℕ) (h : List Op) → Lawful h → ReadyInTurn h (typed_texts r c s left right chs)
-    → StandsBehind left (typed_ids r c chs) (order (within s) h) (order (within s) (history_with h (typed_texts r c s left right chs)))
+    → StandsAfter left (typed_ids r c chs) (order (within s) h) (order (within s) (history_with h (typed_texts r c s left right chs)))
     → IsPutInOneGo (within s) (history_with h (typed_texts r c s left right chs)) left (typed_ids r c chs)
 typed_at_once r c s left right [] h w ready b = tt
 typed_at_once r c s left right (ch ∷ chs) h w ready b =
@@ -55,4 +55,4 @@ typed_in_one_go old new k at n scalars s w e l m =
     let history : new.held.history ≡ history_with h (put_in old.number h old.held.waiting s at scalars) = ap (λ t. t.held.history) m.gained.others ∙ ap (history_with h) ops in
     subst (λ g. IsPutInOneGo p g (left_for p h at) (typed_ids old.number c scalars)) (sym history)
     (typed_at_once old.number c s (left_for p h at) (right_for p h at) scalars h w (subst (ReadyInTurn h) ops lands.0.ready)
-    (subst (λ (o : List Op). StandsBehind (left_for p h at) (typed_ids old.number c scalars) (order p h) (order p (history_with h o))) ops lands.1))
+    (subst (λ (o : List Op). StandsAfter (left_for p h at) (typed_ids old.number c scalars) (order p h) (order p (history_with h o))) ops lands.1))

@@ -31,17 +31,17 @@ comes_at history from old new [] stays i = []
 comes_at history from old new (h ∷ hs) stays i =
     (if nat_eq h.old_at i then stays.0 else []) ++ comes_at history (h.old_at + h.old_len) old stays.1 hs stays.5 i
 
--- an element stands directly behind another one, or it is the first
-abbrev pub IsDirectlyBehind : Place → List Op → Option Identifier → Identifier → Type 0
-IsDirectlyBehind p h left x =
+-- an element stands directly after another one, or it is the first
+abbrev pub IsDirectlyAfter : Place → List Op → Option Identifier → Identifier → Type 0
+IsDirectlyAfter p h left x =
     (front : List Identifier) × (back : List Identifier) × (order p h ≡ front ++ x ∷ back) × (last_before front ≡ left)
 
--- elements were put in one go: the first stands directly behind what is in front, and each has the one before as left origin
+-- elements were put in one go: the first stands directly after what is in front, and each has the one before as left origin
 abbrev pub IsPutInOneGo : Place → List Op → Option Identifier → List Identifier → Type 0
 IsPutInOneGo p h left [] = Unit {0}
-IsPutInOneGo p h left (x ∷ xs) = IsDirectlyBehind p h left x × GoesForward p h x xs
+IsPutInOneGo p h left (x ∷ xs) = IsDirectlyAfter p h left x × GoesForward p h x xs
 
--- what an editor types at one place of a section is put in one go behind the shown element in front of it
+-- what an editor types at one place of a section is put in one go after the shown element in front of it
 abbrev pub TypedInOneGo : Type 0
 TypedInOneGo =
     (old new : State) (k at n : ℕ) (scalars : List ℕ) (section : Identifier) → Lawful old.held.history → section_shown old k ≡ Some section
@@ -49,7 +49,7 @@ TypedInOneGo =
     → IsPutInOneGo (within section) new.held.history (left_for (within section) old.held.history at) (put_ids old scalars)
 
 -- An author's draft of a section: by its hunks the old text becomes the new one, what stands between them stays, and what
--- comes in the place of each is put in one go behind the element in front of it.
+-- comes in the place of each is put in one go after the element in front of it.
 pub record IsAuthoredDraft (section : Identifier) (base own : List Op) : Type 0 where
   pub lawful : Lawful own
   pub part : IsPartOf base own

@@ -129,7 +129,7 @@ module _ {T : Type 0} (s u : Store T) (root top : Option Link) (sound : HasRight
         ∙ ap (λ b. cond b (item_at s x ++ (key, value) ∷ []) (item_at s x)) (sym e.0)
   ]
 
-  -- the list of an insert behind the node y
+  -- the list of an insert after the node y
   pub items-after : (y : ℕ) → nodes_in_order u top ≡ flat_map (after y l.number) (nodes_in_order s root) → rope_items_of u top ≡ flat_map (beside_after y) (nodes_in_order s root)
   items-after y e = ap (flat_map (item_at u)) e ∙ through s root sound (item_at u) (after y l.number) (beside_after y) (each-after y)
 

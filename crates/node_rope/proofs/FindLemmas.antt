@@ -124,7 +124,7 @@ module _ {T : Type 0} (s : Store T) (root : Option Link) (sound : HasRightLinks 
   pub place-left : r < left → IsReached length s (nodes_in_order s root) w h.left r
   place-left = goes-left length (λ _. 1) counting s root sound w o r reached l is_l h read left size
 
-  -- the node stands behind the place, as far as there are more to its left
+  -- the node stands after the place, as far as there are more to its left
   pub place-found : r ≤ left → (w + (left - r) < length (nodes_in_order s root)) × (get_or (nodes_in_order s root) (w + (left - r)) 0 ≡ l.number)
   place-found k =
       let it = stands-behind length (λ _. 1) counting s root sound w o r reached l is_l h read left size in

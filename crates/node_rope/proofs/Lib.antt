@@ -1,6 +1,6 @@
 pub mod AlikeLemmas
 pub mod AttachLemmas
-pub mod BehindLemmas
+pub mod AfterLemmas
 pub mod BesideLemmas
 pub mod BoxLemmas
 pub mod ClimbLemmas

@@ -58,7 +58,7 @@ module _ {T : Type 0} (s : Store T) (root : Option Link) where
     pub few-passed : passed < 4194306
     few-passed = omega (arith, inside, length-order s root n.sound, few-nodes s root n.sound n.few)
 
-    -- the node behind the next one
+    -- the node after the next one
     pub next-behind : (o : Option Link) → AreMade s o → IsFollowed (nodes_in_order s root) l.number (link_number o) → IsNext s root (passed + 1) o
     next-behind o made f =
         let long : length f.front < length (nodes_in_order s root) = omega (arith, ap length f.split, length-append f.front (l.number ∷ f.back)) in

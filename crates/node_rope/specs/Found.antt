@@ -7,7 +7,7 @@ use Rattle.node_rope.specs.Made.{shapes_of}
 use Rattle.node_rope.specs.Shapes.{shape_at, link_number, tree_of, weigh, AreMade}
 use Rattle.node_rope.specs.Walk.{all_nodes}
 
--- x stands in xs, and o is what stands behind it
+-- x stands in xs, and o is what stands after it
 pub record IsFollowed (xs : List ℕ) (x : ℕ) (o : Option ℕ) : Type 0 where
   pub front : List ℕ
   pub back : List ℕ
@@ -22,7 +22,7 @@ pub record IsFound (ss : List Shape) (xs : List ℕ) (w : ℕ) (l : Link) (r : �
   pub before : w ≡ weigh ss front + r
   pub inside : r < (shape_at ss l.number).own.weight
 
--- in the nodes xs the unit w is the unit r of the subtree cur, or of what stands behind it, and then nothing does; size counts units
+-- in the nodes xs the unit w is the unit r of the subtree cur, or of what stands after it, and then nothing does; size counts units
 pub record IsReached {T : Type 0} (size : List ℕ → ℕ) (s : Store T) (xs : List ℕ) (w : ℕ) (cur : Option Link) (r : ℕ) : Type 0 where
   pub front : List ℕ
   pub back : List ℕ

@@ -5,7 +5,7 @@ use Rattle.node_rope.specs.declared.cells.Link.{Link}
 use Rattle.node_rope.specs.Made.{made_count}
 use Rattle.node_rope.specs.Shapes.{AreMade, HasRightLinks, link_number, nodes_in_order}
 
--- o is the node behind `passed` others of a sound tree
+-- o is the node after `passed` others of a sound tree
 pub record IsNext {T : Type 0} (s : Store T) (root : Option Link) (passed : ℕ) (o : Option Link) : Type 0 where
   pub sound : HasRightLinks s root
   pub few : made_count s < 4194305

@@ -1,3 +1,5 @@
+//! Adding a new node beside another one.
+
 // A new node beside another.
 ghost use Rattle.std.specs.Prelude.{◌≡◌, ◌+◌, ◌-◌, ◌^◌, ◌<◌, ◌≤◌, [], ◌∷◌, ◌++◌, flat_map, IfOk, IfErr, Some};
 ghost use Rattle.node_rope.specs.Entered.{IsGivenBack, LeadsTo};
@@ -49,7 +51,7 @@ fn new_shape<T: Drop>(store: &Store<T>, side: Side, at: Link, key: ElementId, ow
     facing(shape, side)
 }
 
-// Makes a node and enters its key. After want of memory both are as before.
+// Makes a node and enters its key. After an allocation failure both are as before.
 pub(crate) fn enter<T: Drop>(
     store: &mut Store<T>,
     map: &mut KeyMap,

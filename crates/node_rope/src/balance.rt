@@ -1,3 +1,5 @@
+//! Balancing of a rope's tree by weight, with single and double rotations.
+
 // Balance by weight: no child weighs more than three times its sibling, where a subtree weighs its count and one more.
 // A child that comes to weigh more rises, or its inner child does where that weighs at least twice the outer one. With
 // three and two this restores the balance after one node more (Hirai and Yamamoto, Balancing weight-balanced trees). No
@@ -23,7 +25,7 @@ fn child_of(shape: Shape) -> Option<Link>
     }
 }
 
-// Lets a new node sink below all that it took over from its neighbour. The answer is the top.
+// Lets a new node sink below all that it took over from its neighbour. Returns the top.
 fn sink<T: Drop>(store: &mut Store<T>, root: Option<Link>, node: Link) -> Option<Link>
     requires sound { HasRightLinks store.old root }
     requires made { IsMade store.old node }
@@ -142,7 +144,7 @@ fn restore<T: Drop>(store: &mut Store<T>, stage: Stage, p: Link) -> Stage
     }
 }
 
-// Brings each node above a new leaf in balance. The answer is the top.
+// Brings each node above a new leaf in balance. Returns the top.
 fn restore_above<T: Drop>(store: &mut Store<T>, root: Option<Link>, leaf: Link) -> Option<Link>
     requires sound { HasRightLinks store.old root }
     requires made { IsMade store.old leaf }
@@ -155,7 +157,7 @@ fn restore_above<T: Drop>(store: &mut Store<T>, root: Option<Link>, leaf: Link) 
     stage.top
 }
 
-// Brings the tree in balance around a new node. The answer is the top.
+// Brings the tree in balance around a new node. Returns the top.
 pub(crate) fn rebalance<T: Drop>(
     store: &mut Store<T>,
     root: Option<Link>,

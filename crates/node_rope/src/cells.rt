@@ -1,3 +1,5 @@
+//! What a node of a rope has: its weight, its rank, its links and the sums of its subtree.
+
 // The nodes of a rope, as the list of them in the order made.
 ghost use Rattle.std.specs.Prelude.{◌≡◌, ◌≤◌, ℕ};
 

@@ -1,3 +1,5 @@
+//! Walks from a node to the root: index and weight before it, and the sums that a change renews.
+
 // Where a node stands, found by climbing from it.
 ghost use Rattle.std.specs.Prelude.{◌≡◌, ◌+◌, ◌-◌, ◌^◌, ◌<◌, ◌≤◌, length, take, slice_index_or, IsTrue, ◌↔◌, Some};
 ghost use Rattle.std.specs.Prelude.{None, ◌≢◌, ℕ};

@@ -1,3 +1,5 @@
+//! Finding a node by weight or by index, and the node after another one.
+
 // The node that holds a unit of weight, and the one at a place, found by descending from the top.
 ghost use Rattle.std.specs.Prelude.{◌≡◌, ◌≤◌, ◌<◌, length, slice_index_or, IfSome, IfNone, None, Some, slice_get};
 ghost use Rattle.node_rope.specs.Made.{IsMade, shapes_of};
@@ -112,7 +114,7 @@ pub(crate) fn node_within<T: Drop>(
     None
 }
 
-// The node behind another one, found from that one: no descent from the top.
+// The node after another one, found from that one: no descent from the top.
 
 /// The first node of a subtree.
 fn first_node<T: Drop>(store: &Store<T>, root: Option<Link>, from: Link) -> Link
@@ -132,7 +134,7 @@ fn first_node<T: Drop>(store: &Store<T>, root: Option<Link>, from: Link) -> Link
     cur
 }
 
-/// The first node above that has this one to its left. With nothing to the right of this one, it stands behind it.
+/// The first node above that has this one to its left. With nothing to the right of this one, it stands after it.
 fn node_above<T: Drop>(store: &Store<T>, root: Option<Link>, at: Link) -> Option<Link>
     requires sound { HasRightLinks store.now root }
     requires made { IsMade store.now at }
@@ -155,8 +157,8 @@ fn node_above<T: Drop>(store: &Store<T>, root: Option<Link>, at: Link) -> Option
     None
 }
 
-/// The node behind this one.
-pub(crate) fn node_behind<T: Drop>(store: &Store<T>, root: Option<Link>, at: Link) -> Option<Link>
+/// The node after this one.
+pub(crate) fn node_after<T: Drop>(store: &Store<T>, root: Option<Link>, at: Link) -> Option<Link>
     requires sound { HasRightLinks store.now root }
     requires made { IsMade store.now at }
     ensures behind { IsFollowed (nodes_in_order store.now root) at.number (link_number result) }

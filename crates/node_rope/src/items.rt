@@ -1,3 +1,5 @@
+//! Making and refilling the entries of a rope.
+
 // What becomes of the items of a rope's parts.
 ghost use Rattle.std.specs.Prelude.{◌≡◌, ◌<◌, ◌≤◌, ◌^◌, None, Some, OnOk, IfErr};
 ghost use Rattle.block_map.specs.Contents.{value_of};
@@ -27,8 +29,8 @@ pub(crate) fn own_of<T: Weigh>(value: &T) -> Own
     }
 }
 
-// A new item directly at the side of the one with the key `at`, which the node `link` has. After want of memory the items
-// are as before.
+// A new item directly at the side of the one with the key `at`, which the node `link` has. After an allocation failure
+// the items are as before.
 pub(crate) fn grow<T: Weigh>(
     store: &mut Store<T>,
     map: &mut KeyMap,

@@ -1,3 +1,5 @@
+//! The map from a rope's keys to its nodes.
+
 // The map from keys to nodes.
 ghost use Rattle.std.specs.Prelude.{◌≡◌, None, Some, IfSome, IsTrue, IsFalse, option_map};
 ghost use Rattle.fugue_ids.specs.Keyed.{IsReplaced};
@@ -74,7 +76,7 @@ pub(crate) fn keep_at_hand(map: &mut KeyMap, key: ElementId, link: Link)
     map.at_hand = link;
 }
 
-// False for want of memory, which only a new key can meet.
+// False for lack of memory, which only a new key can meet.
 pub(crate) fn set_link(map: &mut KeyMap, key: ElementId, link: Link) -> bool
     ensures set { IsTrue result → IsReplaced (value_of map.old.links) (value_of map.new.links) key (Some link) }
     ensures refused { IsFalse result → HasSameValues map.old.links map.new.links }
@@ -90,7 +92,7 @@ pub(crate) fn set_link(map: &mut KeyMap, key: ElementId, link: Link) -> bool
     }
 }
 
-// Another key for the node, which is at hand then. False for want of memory, and then each key leads where it did.
+// Another key for the node, which is at hand then. False for lack of memory, and then each key leads where it did.
 pub(crate) fn rename_link(map: &mut KeyMap, key: ElementId, new_key: ElementId, link: Link) -> bool
     requires held { value_of map.old.links key ≡ Some link }
     requires fresh { value_of map.old.links new_key ≡ None }

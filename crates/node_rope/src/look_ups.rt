@@ -1,4 +1,5 @@
-// Look-ups of a rope. None of them takes memory.
+//! Look-ups of a rope: by key, by index, by weight, and the neighbours of an entry. None of them allocates.
+
 ghost use Rattle.std.specs.Prelude.{◌≡◌, ◌<◌, ◌+◌, ◌≤◌, ℕ, IfSome, IsSome, IfNone, None, Some, drop, length, take};
 ghost use Rattle.std.specs.Prelude.{option_copied, option_map, slice_get};
 ghost use Rattle.std.specs.Map.{keys_of};
@@ -8,7 +9,7 @@ ghost use Rattle.node_rope.specs.Items.{value_under};
 
 use crate::cells::Weigh;
 use crate::climb::{before, weight_below};
-use crate::find::{find_weight, node_at, node_behind, node_within};
+use crate::find::{find_weight, node_after, node_at, node_within};
 use crate::links::{find_link, floor_key, floor_link, keep_at_hand, recent_key};
 use crate::low::{first_low_node, last_low_node};
 use crate::rope::Rope;
@@ -48,7 +49,7 @@ impl<T: Weigh> Rope<T> {
         }
     }
 
-    /// The key of the item behind this many others.
+    /// The key of the item after this many others.
     pub fn key_at(&self, place: usize) -> Option<ElementId>
         ensures { result ≡ slice_get (keys_of self.now) place }
     {
@@ -58,7 +59,7 @@ impl<T: Weigh> Rope<T> {
         }
     }
 
-    /// The value of the item behind this many others.
+    /// The value of the item after this many others.
     pub fn value_at(&self, place: usize) -> Option<&T>
         ensures { option_copied result ≡ option_map (λ x. x.1) (slice_get self.now place) }
     {
@@ -88,7 +89,7 @@ impl<T: Weigh> Rope<T> {
         self.key_at(0)
     }
 
-    /// The item behind the one with this key.
+    /// The item after the one with this key.
     pub fn next_item(&self, key: ElementId) -> Option<(ElementId, &T)>
         ensures some { IfSome result (λ n. (i : ℕ) × StandsAt self.now i key × StandsAt self.now (i + 1) n.0) }
         ensures value { IfSome result (λ n. value_under n.0 self.now ≡ Some n.1.now) }
@@ -99,13 +100,13 @@ impl<T: Weigh> Rope<T> {
             Some(link) => link,
             None => return None,
         };
-        match node_behind(&self.store, self.root, link) {
+        match node_after(&self.store, self.root, link) {
             Some(behind) => Some((self.store.shape(behind).key, self.store.value(behind))),
             None => None,
         }
     }
 
-    /// The key of the item behind the one with this key.
+    /// The key of the item after the one with this key.
     pub fn next(&self, key: ElementId) -> Option<ElementId>
         ensures some { IfSome result (λ n. (i : ℕ) × StandsAt self.now i key × StandsAt self.now (i + 1) n) }
         ensures none { IfNone result
@@ -158,7 +159,7 @@ impl<T: Weigh> Rope<T> {
         Some((key, self.store.value(unit.link), unit.inside))
     }
 
-    /// The key of the first item, of those behind `from` others, whose rank is at most `most`.
+    /// The key of the first item, of those after `from` others, whose rank is at most `most`.
     pub fn first_low(&self, from: usize, most: u64) -> Option<ElementId>
         ensures { result ≡ first_low_key T.rank_of most (drop from self.now) }
     {

@@ -1,4 +1,6 @@
-// The first node behind a place, and the last one before it, whose rank is low. The least rank of a subtree tells
+//! The first and the last node whose rank is low enough, by the least rank of each subtree.
+
+// The first node after a place, and the last one before it, whose rank is low. The least rank of a subtree tells
 // whether it has one. Both are one search: the last one is the first as seen from the right.
 ghost use Rattle.std.specs.Prelude.{◌≡◌, Some, drop, take};
 ghost use Rattle.node_rope.specs.Made.{IsMade, shapes_of};
@@ -81,7 +83,7 @@ fn low_from_or<T: Drop>(
     }
 }
 
-/// The first low node at a place or behind it, as seen from the side. `near` has it in itself, or below its other side.
+/// The first low node at a place or after it, as seen from the side. `near` has it in itself, or below its other side.
 fn low_node<T: Drop>(
     store: &Store<T>,
     root: Option<Link>,
@@ -118,7 +120,7 @@ fn low_node<T: Drop>(
     }
 }
 
-/// The first low node at a place or behind it.
+/// The first low node at a place or after it.
 pub(crate) fn first_low_node<T: Drop>(
     store: &Store<T>,
     root: Option<Link>,

@@ -1,3 +1,5 @@
+//! A node's links, key and sums, packed into few bytes.
+
 ghost use Rattle.std.specs.Prelude.{◌≡◌, ◌+◌, ◌-◌, ◌^◌, ◌<◌, ◌≤◌};
 ghost use Rattle.node_rope.specs.Packing.{link_if};
 ghost use Rattle.node_rope.specs.Rising.{more};

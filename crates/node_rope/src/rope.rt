@@ -1,3 +1,5 @@
+//! The rope: a list of entries with keys and weights, in a balanced tree, and how entries are inserted and replaced.
+
 ghost use Rattle.std.specs.Prelude.{◌≡◌, ◌<◌, ◌≤◌, ◌^◌, [], ◌∷◌, OnOk, IfErr, IsSome, IsNone, Some, length, IfOk};
 ghost use Rattle.std.specs.Prelude.{IsFalse, IsTrue};
 ghost use Rattle.node_rope.specs.Items.{value_under};
@@ -13,7 +15,7 @@ use fugue_ids::{ElementId, MOST_OPERATIONS};
 use std::alloc::Global;
 use std::marker::Model;
 
-/// Want of memory, with the value handed back.
+/// An allocation failure, with the value handed back.
 #[derive(Drop)]
 pub struct Back<T> {
     pub value: T,
@@ -82,7 +84,7 @@ impl<T: Weigh> Rope<T> {
         )
     }
 
-    /// A new item directly before the one with the key `at`. After want of memory the rope is as before.
+    /// A new item directly before the one with the key `at`. After an allocation failure the rope is as before.
     pub fn insert_before(&mut self, at: ElementId, key: ElementId, value: T) -> Result<(), Back<T>>
         requires held { IsSome (value_under at self.old) }
         requires fresh { IsNone (value_under key self.old) }
@@ -93,7 +95,7 @@ impl<T: Weigh> Rope<T> {
         self.insert_beside(Side::Left, at, key, value)
     }
 
-    /// A new item directly behind the one with the key `at`. After want of memory the rope is as before.
+    /// A new item directly after the one with the key `at`. After an allocation failure the rope is as before.
     pub fn insert_after(&mut self, at: ElementId, key: ElementId, value: T) -> Result<(), Back<T>>
         requires held { IsSome (value_under at self.old) }
         requires fresh { IsNone (value_under key self.old) }
@@ -104,8 +106,8 @@ impl<T: Weigh> Rope<T> {
         self.insert_beside(Side::Right, at, key, value)
     }
 
-    /// Another value for the item with the key `at`, and a new item directly behind it, by one look-up less than the two
-    /// calls. After want of memory the rope is as before, and the new item's value is handed back.
+    /// Another value for the item with the key `at`, and a new item directly after it, by one look-up less than the two
+    /// calls. After an allocation failure the rope is as before, and the new item's value is handed back.
     pub fn part(&mut self, at: ElementId, front: T, key: ElementId, back: T) -> Result<(), Back<T>>
         requires held { IsSome (value_under at self.old) }
         requires fresh { IsNone (value_under key self.old) }
@@ -180,7 +182,8 @@ impl<T: Weigh> Rope<T> {
 // A new item in the place of another.
 
 impl<T: Weigh> Rope<T> {
-    // Another key for an item. Entering that alone can want memory: then the answer is false, and the rope as before.
+    // Another key for an item. Entering that alone can run out of memory: then the answer is false, and the rope as
+    // before.
     fn rename(&mut self, key: ElementId, new_key: ElementId) -> bool
         requires held { IsSome (value_under key self.old) }
         requires fresh { IsNone (value_under new_key self.old) }
@@ -206,7 +209,8 @@ impl<T: Weigh> Rope<T> {
         true
     }
 
-    /// Another value in place of one, under another key, which no item has. After want of memory the rope is as before.
+    /// Another value in place of one, under another key, which no item has. After an allocation failure the rope is as
+    /// before.
     pub fn rekey(&mut self, key: ElementId, new_key: ElementId, value: T) -> Result<T, Back<T>>
         requires held { IsSome (value_under key self.old) }
         requires fresh { IsNone (value_under new_key self.old) }

@@ -1,3 +1,5 @@
+//! The memory in which the nodes of a rope are.
+
 ghost use Rattle.std.specs.Prelude.{◌≡◌, length};
 ghost use Rattle.node_rope.specs.Filed.{IsFiled};
 

@@ -1,3 +1,5 @@
+//! Rotations of the tree: a child rises above its parent.
+
 // Rotations.
 ghost use Rattle.std.specs.Prelude.{◌≡◌, ◌+◌, ◌-◌, ◌^◌, ◌<◌, ◌≤◌, Some};
 ghost use Rattle.node_rope.specs.Made.{IsMade, KeepsMade, made_count, shapes_of, values_of};
@@ -83,7 +85,7 @@ fn set_child<T: Drop>(store: &mut Store<T>, over: Option<Link>, p: Link, c: Link
     }
 }
 
-// `c` comes above its parent `p`. The answer is the top.
+// `c` comes above its parent `p`. Returns the top.
 pub(crate) fn rise<T: Drop>(
     store: &mut Store<T>,
     root: Option<Link>,

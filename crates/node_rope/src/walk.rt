@@ -2,7 +2,7 @@
 ghost use Rattle.std.specs.Prelude.{◌≡◌, drop, option_copied, option_map, slice_get};
 
 use crate::cells::{Link, Weigh};
-use crate::find::{node_at, node_behind};
+use crate::find::{node_after, node_at};
 use crate::rope::Rope;
 use crate::store::Store;
 use std::marker::Model;
@@ -52,7 +52,7 @@ impl<'a, T: Weigh> Walk<'a, T> {
         let link = self.next?;
         let value = self.store.value(link);
         self.passed += 1;
-        self.next = node_behind(self.store, self.root, link);
+        self.next = node_after(self.store, self.root, link);
         Some(value)
     }
 }

@@ -35,12 +35,12 @@ c = id 1 2
 abbrev three : List Op
 three = Section c (Some b) None (codes "C") ∷ Section b (Some a) None (codes "B") ∷ Section a None None (codes "A") ∷ []
 
--- an author moves C to the front, another one puts A behind B, and a third one C behind A
+-- an author moves C to the front, another one puts A after B, and a third one C after A
 abbrev c_first : Op
 c_first = Note (id 1 3) (c ∷ a ∷ []) 1 (0 ∷ 0 ∷ 0 ∷ 1 ∷ 2 ∷ [])
 
-abbrev a_behind_b : Op
-a_behind_b = Note (id 2 0) (a ∷ b ∷ c ∷ []) 1 (0 ∷ 0 ∷ 0 ∷ 1 ∷ 3 ∷ [])
+abbrev a_after_b : Op
+a_after_b = Note (id 2 0) (a ∷ b ∷ c ∷ []) 1 (0 ∷ 0 ∷ 0 ∷ 1 ∷ 3 ∷ [])
 
 abbrev c_second : Op
 c_second = Note (id 3 0) (c ∷ a ∷ b ∷ []) 1 (0 ∷ 0 ∷ 0 ∷ 1 ∷ 3 ∷ [])
@@ -49,11 +49,11 @@ abbrev part : List Op
 part = c_first ∷ three
 
 -- B and C, which the second author did not move, stand as they stood
-others_stay : (arranged part ≡ c ∷ a ∷ b ∷ []) × (arranged (a_behind_b ∷ part) ≡ c ∷ b ∷ a ∷ [])
+others_stay : (arranged part ≡ c ∷ a ∷ b ∷ []) × (arranged (a_after_b ∷ part) ≡ c ∷ b ∷ a ∷ [])
 unfolding lift claims order chain
 others_stay = (refl, refl)
 
-are_lawful : Lawful part × Lawful (a_behind_b ∷ part) × Lawful (c_second ∷ part) × Lawful (Delete (id 1 3) ∷ part)
+are_lawful : Lawful part × Lawful (a_after_b ∷ part) × Lawful (c_second ∷ part) × Lawful (Delete (id 1 3) ∷ part)
 unfolding verdict
 are_lawful =
     let whole : Lawful part = (refl, (refl, (refl, (refl, tt)))) in

@@ -135,7 +135,7 @@ LaterFirst h R = (x y : Identifier) → HasLaterRight p h R x y → R x y ≡ tr
 abbrev is_in : (h : List Op) (x : Identifier) (l r : Option Identifier) → holder h x ≡ Some (letter x l r) → IsIn p h x
 is_in h x l r e = record { op = letter x l r; held = e; place = refl }
 
--- b was put behind a: without the first sentence it may stand before it
+-- b was put after a: without the first sentence it may stand before it
 needs_together : ((h : List Op) (R : Relation) → Lawful h → Strict h R → BeforeRight h R → ByIdentifier h R → LaterFirst h R → Agrees h R) → ⊥
 unfolding before order chain verdict
 needs_together law =
@@ -153,7 +153,7 @@ needs_together law =
     (λ x y t. absurd (subst (λ o. OriginIsLater falling o None) (right x t.first) (subst (λ o. OriginIsLater falling (right_at h x) o) (right y t.second) t.later)))
     a b (is_in h a None None refl) (is_in h b (Some a) None refl))
 
--- b was put before a: without the second sentence it may stand behind it
+-- b was put before a: without the second sentence it may stand after it
 needs_before_right : ((h : List Op) (R : Relation) → Lawful h → Strict h R → Together h R → ByIdentifier h R → LaterFirst h R → Agrees h R) → ⊥
 unfolding before order chain verdict
 needs_before_right law =
@@ -203,7 +203,7 @@ each_of_four h x y z v P w o k j i l e m =
 abbrev d : Identifier
 d = id_at 4 0
 
--- a and d know nothing of each other; b was put between them, and c behind a where d was not yet: without the fourth
+-- a and d know nothing of each other; b was put between them, and c after a where d was not yet: without the fourth
 -- sentence b may stand before c
 needs_later_right_first : ((h : List Op) (R : Relation) → Lawful h → Strict h R → Together h R → BeforeRight h R → ByIdentifier h R → Agrees h R) → ⊥
 unfolding before order chain verdict

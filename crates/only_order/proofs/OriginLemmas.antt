@@ -14,7 +14,7 @@ use Rattle.only_order.specs.TextOrder.{HangsOn, IsLeft, IsRightSibling, IsTextOr
 use Rattle.only_order.specs.Chains.{ByChains, IsOrderByChains}
 use Rattle.only_order.proofs.HeldLemmas.{is_sibling, left_held, right_held, right_sibling, rights_above, sibling_is}
 
--- how a list with the last member e is split behind c
+-- how a list with the last member e is split after c
 split_end : (xs c : List Identifier) (e u : Identifier) (more : List Identifier) → xs ++ e ∷ [] ≡ c ++ u ∷ more
     → (rest : List Identifier) × (xs ≡ c ++ rest) × (u ∷ more ≡ rest ++ e ∷ [])
 split_end xs [] e u more h = (xs, refl, sym h)
@@ -24,7 +24,7 @@ split_end (x ∷ xs) (y ∷ c) e u more h =
     let r = split_end xs c e u more (cc h) in
     (r.0, (λ i. a i ∷ r.1 i), r.2)
 
--- a list of one member has no other behind it
+-- a list of one member has no other after it
 too_long : (a : List Identifier) (x m e : Identifier) (ms : List Identifier) → e ∷ [] ≡ (a ++ x ∷ []) ++ m ∷ ms → ⊥
 too_long [] x m e ms h = cc h
 too_long (y ∷ a) x m e ms h = not_nil (a ++ x ∷ []) m ms (cc h)

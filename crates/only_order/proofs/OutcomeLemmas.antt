@@ -41,14 +41,14 @@ above_once next h (Some x) None a b e = absurd (never_none next h x (a x refl) e
 above_once next h (Some x) (Some y) a b e = ap Some (same_chain next h x y (a x refl) (b y refl) e)
 
 module _ (p : Place) (h : List Op) (w : Lawful h) where
-  -- elements behind one front of their chains of left origins have one left origin
+  -- elements after one front of their chains of left origins have one left origin
   same_left : (a b : Identifier) (front : List Identifier) → IsIn p h a → IsIn p h b → lefts h a ≡ front ++ a ∷ [] → lefts h b ≡ front ++ b ∷ [] → left_at h a ≡ left_at h b
   same_left a b front m n q r =
       let above : (x : Identifier) → IsIn p h x → lefts h x ≡ front ++ x ∷ [] → chain_above next_left h (left_at h x) ≡ front = λ x k e.
       (same_from_push (chain_above next_left h (left_at h x)) front x x (sym (lefts-above h x w (IsIn-held p h x k)) ∙ e)).0 in
       above_once next_left h (left_at h a) (left_at h b) (λ y. left_held h w a y (IsIn-held p h a m)) (λ y. left_held h w b y (IsIn-held p h b n)) (above a m q ∙ sym (above b n r))
 
-  -- elements behind one front of their chains of right origins have the same one
+  -- elements after one front of their chains of right origins have the same one
   same_beside : (c d : Identifier) (front : List Identifier) → IsIn p h c → IsIn p h d → rights h c ≡ front ++ c ∷ [] → rights h d ≡ front ++ d ∷ []
       → right_sibling h c ≡ right_sibling h d
   same_beside c d front m n q r =
@@ -90,7 +90,7 @@ module _ (p : Place) (h : List Op) (w : Lawful h) where
         All-contains (IsIn p g) (rights g e) a (rights-in p g e v m)
         (subst (λ l. Contains l a) (sym (rights-within g h e v w f (IsIn-held p g e m) ∙ q)) (contains_middle front a more))
 
-    -- two siblings behind one front of their chains of right origins
+    -- two siblings after one front of their chains of right origins
     module _ (c d : Identifier) (mc : IsIn p g c) (md : IsIn p g d) (apart : c ≢ d) (left : left_at h c ≡ left_at h d) where
       -- with one right origin they stand by identifier
       tie : right_at h c ≡ right_at h d → Outcome p h (older_of g) c d

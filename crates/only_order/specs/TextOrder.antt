@@ -56,7 +56,7 @@ pub record ClosesBlock (p : Place) (h : List Op) (R : Relation) (r : Identifier)
   pub last : (e : Identifier) → IsIn p h e → LeansOn p h r e → R e r ≡ true
   pub no_gap : (e z : Identifier) → IsIn p h e → IsIn p h z → LeansOn p h r e → R e z ≡ true → R z r ≡ true → LeansOn p h r z
 
--- the first origin stands later than the second: the end stands behind all elements
+-- the first origin stands later than the second: the end stands after all elements
 abbrev pub OriginIsLater : Relation → Option Identifier → Option Identifier → Type 0
 OriginIsLater R None (Some b) = Unit {0}
 OriginIsLater R (Some a) (Some b) = R b a ≡ true

@@ -8,7 +8,7 @@ use Rattle.origin_model.specs.frames.Frames.{IsPartial, IsBad}
 use Rattle.op_frame.specs.declared.fault.FrameFault.{FrameFault}
 use Rattle.op_frame.specs.declared.fault.FrameFault.TheVariants.{BadFrame, CutShort, ReadFault, TooLong, NoMemory}
 use Rattle.op_frame.specs.Readers.{ReadingAnswerIs, AnswersBy, IsReadByBytes, StartsWithin}
-use Rattle.op_frame.proofs.ReadingLemmas.{begins_not_partial, framed_some, no_bytes_are_partial, same_front}
+use Rattle.op_frame.proofs.ReadingLemmas.{begins_not_partial, framed_some, no_bytes_are_partial, common_prefix}
 use Rattle.op_frame.proofs.SpecifiedLemmas.{take_past}
 
 module _ (g : Grammar) where
@@ -40,7 +40,7 @@ module _ (g : Grammar) where
 
   same_given : (a b : Op) (room : ℕ) (bytes : List ℕ) → StartsWithin g a room bytes → StartsWithin g b room bytes → a ≡ b
   same_given a b room bytes p q =
-      let same = (same_front g p.framed q.framed p.rest q.rest p.is_frame q.is_frame (sym p.split ∙ q.split)).ops in
+      let same = (common_prefix g p.framed q.framed p.rest q.rest p.is_frame q.is_frame (sym p.split ∙ q.split)).ops in
       let ops : a ∷ p.others ≡ b ∷ q.others = sym p.first ∙ same ∙ q.first in
       cc ops
 

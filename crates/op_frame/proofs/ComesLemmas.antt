@@ -199,7 +199,7 @@ record Within (g : Grammar) (found : List Framed) (xs : List Op) (op : Op) : Typ
   found_are : found ≡ before ++ framed ∷ after
   are_before : All (IsFrame g) before
   is_frame : IsFrame g framed
-  -- its operations before this one, and behind it
+  -- its operations before this one, and after it
   front : List Op
   more : List Op
   brings : framed.ops ≡ front ++ op ∷ more
@@ -311,7 +311,7 @@ module _ (hold most : ℕ) (start : Held) where
         → IfSome specified (λ bytes. Comes old.grammar hold most start old.limit bytes fed.ops (BadFrame k))
     fed_bad k nexts = came (BadFrame k) _ (λ bytes is. is.0) (after_it (Err (frame_fault.BadFrame k)) nexts).ends
 
-    -- the stream goes on behind its limit, up to which it has no fault
+    -- the stream goes on after its limit, up to which it has no fault
     pub fed_long : Nexts old new before after (Err frame_fault.TooLong) → IfSome specified (λ bytes. Comes old.grammar hold most start old.limit bytes fed.ops TooLong)
     fed_long nexts = came TooLong _ (λ bytes is. is) (after_it (Err frame_fault.TooLong) nexts).ends
 

@@ -19,16 +19,16 @@ use Rattle.op_frame.specs.declared.due.Due.{Due}
 use Rattle.op_frame.specs.declared.due.Due.TheVariants.{Kind}
 use Rattle.op_frame.specs.declared.due.Last.TheVariants.{Title}
 use Rattle.op_frame.proofs.CodeLemmas.{identifier_code, names_code, scalar_below}
-use Rattle.op_frame.proofs.FormatLemmas.{behind_field, identifier, names, several_of}
+use Rattle.op_frame.proofs.FormatLemmas.{after_field, identifier, names, several_of}
 use Rattle.op_frame.proofs.ItemLemmas.{has_frame, has_run_frame, item_code}
 use Rattle.op_frame.proofs.ReadingLemmas.{framed_some}
 
--- the first byte, and those behind it
+-- the first byte, and those after it
 pub head_is : (b : List ℕ) (x : ℕ) → 1 ≤ length b → get_or b 0 0 ≡ x → b ≡ x ∷ take (length b - 1) (drop 1 b)
 head_is [] x some is = absurd (omega (arith, some))
 head_is (y ∷ b) x some is = λ i. is i ∷ sym (take_all (suc (length b) - 1) b (omega arith)) i
 
--- behind the first byte of a frame its fields follow
+-- after the first byte of a frame its fields follow
 pub fields_there : (g : Grammar) (kind : ℕ) (next : Due) (bytes : List ℕ) → LeavesDue (kind ∷ []) (Kind g) next → IsFrameOf g bytes → 1 ≤ length bytes → get_or bytes 0 0 ≡ kind
     → Completes next (take (length bytes - 1) (drop 1 bytes))
 fields_there g kind next bytes p f some is = (p.rest (take (length bytes - 1) (drop 1 bytes))).0 (f.1.item, f.1.is_item, sym (head_is bytes kind some is) ∙ f.1.bytes_are)
@@ -65,7 +65,7 @@ same_meaning g bytes ops f is =
 pub frame_wider : (g : Grammar) (bytes : List ℕ) → IsFrameOf g bytes → IsFrameOf Version2 bytes
 frame_wider g bytes f = (f.0, record { item = f.1.item; is_item = wider g f.1.item f.1.is_item; bytes_are = f.1.bytes_are; ops_are = f.1.ops_are })
 
--- the text behind a title's length
+-- the text after a title's length
 pub text_there : (bytes : List ℕ) (t : IsLast Title bytes) → take (length bytes - 2) (drop 2 bytes) ≡ encode_utf8_all t.0
 text_there bytes t = ap (λ (x : List ℕ). take (length x - 2) (drop 2 x)) t.2 ∙ take_all (length (title_bytes t.0) - 2) (encode_utf8_all t.0) (omega arith)
 
@@ -78,7 +78,7 @@ title_there bytes title text t is there =
 pub code_is : (c : ℕ) → IsScalar c → scalar_of_bytes (byte_at 2 c) (byte_at 1 c) (byte_at 0 c) ≡ c
 code_is c is = omega (arith, scalar_below c is)
 
--- the names behind their number
+-- the names after their number
 pub names_there : (bytes : List ℕ) → StartsWith AreNamesBytes bytes
     → (1 ≤ length bytes) × (get_or bytes 0 0 ≤ 3) × Several (get_or bytes 0 0) IsIdentifierBytes (λ rest. Unit {0}) (take (length bytes - 1) (drop 1 bytes))
 names_there bytes t =
@@ -104,13 +104,13 @@ code_there bytes t =
     subst CodeThere (sym is) (record { some = omega arith; is_byte = t.2.1; body = subst IsBodyBytes (sym (take_all (length (t.2.0 ∷ t.1) - 1) t.1 (omega arith))) t.3 })
 
 -- they follow the names
-pub code_behind : (bytes middle rest : List ℕ) (id : Identifier) (named : List Identifier) → Then IsIdentifierBytes (Then AreNamesBytes (Then IsCodeBytes IsBodyBytes)) bytes
+pub code_after : (bytes middle rest : List ℕ) (id : Identifier) (named : List Identifier) → Then IsIdentifierBytes (Then AreNamesBytes (Then IsCodeBytes IsBodyBytes)) bytes
     → IsIdentifier id → bytes ≡ id_bytes id ++ middle → AreNames named → middle ≡ names_bytes named ++ rest → CodeThere rest
-code_behind bytes middle rest id named t is split are further =
-    let behind = behind_field identifier identifier_code (Then AreNamesBytes (Then IsCodeBytes IsBodyBytes)) bytes t id middle is split in
-    code_there rest (behind_field names names_code (Then IsCodeBytes IsBodyBytes) middle behind named rest are further)
+code_after bytes middle rest id named t is split are further =
+    let behind = after_field identifier identifier_code (Then AreNamesBytes (Then IsCodeBytes IsBodyBytes)) bytes t id middle is split in
+    code_there rest (after_field names names_code (Then IsCodeBytes IsBodyBytes) middle behind named rest are further)
 
--- the first of some names, and those behind it
+-- the first of some names, and those after it
 pub first_name : (n : ℕ) (bytes : List ℕ) → 0 < n → Several n IsIdentifierBytes (λ rest. Unit {0}) bytes → StartsWith IsIdentifierBytes bytes
 first_name zero bytes some t = absurd (omega (arith, some))
 first_name (suc n) bytes some t = (t.0, t.1, t.2, tt, t.4)
@@ -119,5 +119,5 @@ pub later_names : (n m : ℕ) (bytes rest : List ℕ) (id : Identifier) → n �
     → bytes ≡ id_bytes id ++ rest
     → Several m IsIdentifierBytes (λ rest. Unit {0}) rest
 later_names n m bytes rest id more t is split =
-    behind_field identifier identifier_code (Several m IsIdentifierBytes (λ rest. Unit {0})) bytes
+    after_field identifier identifier_code (Several m IsIdentifierBytes (λ rest. Unit {0})) bytes
     (subst (λ (k : ℕ). Several k IsIdentifierBytes (λ rest. Unit {0}) bytes) more t) id rest is split

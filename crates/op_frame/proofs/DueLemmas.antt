@@ -1,4 +1,4 @@
--- What is due behind some bytes of a frame, field by field.
+-- What is due after some bytes of a frame, field by field.
 use Rattle.std.proofs.Common.{◌≡◌, ℕ, zero, suc, ◌+◌, ◌-◌, ◌*◌, ◌<◌, ◌≤◌, false, List, [], ◌∷◌, ◌++◌, length, drop, get_or, refl, ap, sym, subst, ◌∙◌, ◌⊎◌, append_assoc, arith}
 use Rattle.std.proofs.Common.{inl, inr, length-append, length-drop, take}
 use Rattle.std.specs.Prelude.{◌↔◌, ◌^◌, All, Option, Some, None, SomeIff, is_some, flat_map}
@@ -19,7 +19,7 @@ use Rattle.origin_model.specs.declared.grammar.Grammar.{Grammar}
 use Rattle.origin_model.specs.declared.grammar.Grammar.TheVariants.{Version2}
 use Rattle.origin_model.specs.frames.Frames.{HasRunFrame, IsIdentifier, IsItem, Item, Run as RunOf, Single, Typed, body_bytes, frame, id_bytes, item_bytes, names_bytes}
 use Rattle.origin_model.specs.frames.Frames.{origin_bytes, run_frame, scalar_bytes, text_bytes, title_bytes}
-use Rattle.op_frame.specs.FrameFronts.{AreFields, Completes, IsCounted, IsDueFront, IsIdentifierBytes, IsJudged, IsLast, IsNothing, IsOriginBytes, IsRunBehind, IsScalarBytes}
+use Rattle.op_frame.specs.FrameFronts.{AreFields, Completes, IsCounted, IsDueFront, IsIdentifierBytes, IsJudged, IsLast, IsNothing, IsOriginBytes, IsRunAfter, IsScalarBytes}
 use Rattle.op_frame.specs.FrameFronts.{IsSoundDue, IsSoundLast, IsTitleEnd, LeavesDue, NeverCompletes, Several, Then, scalar_of_bytes, grown_by, most_from, scalars_due, text_due}
 use Rattle.op_frame.specs.declared.due.Due.{Due}
 use Rattle.op_frame.specs.declared.due.Due.TheVariants.{Fields, Kind, Run}
@@ -44,7 +44,7 @@ title_spelled len bytes e =
 letters_title : (n : ℕ) → 0 < n → n ≤ LONGEST_TITLE → IsLast Title (to_be_bytes w16 n ++ letters n)
 letters_title n some short = (chars (letters n), title_in n (letters n) some short (letters_end n), title_spelled n (letters n) (letters_end n))
 
--- there are bytes that are due: none behind a frame, and some where it is not whole
+-- there are bytes that are due: none after a frame, and some where it is not whole
 pub record Sample (due : Due) : Type 0 where
   pub bytes : List ℕ
   pub completes : Completes due bytes
@@ -89,7 +89,7 @@ fields_sample zero zero last s = last_sample last s
 most_sound : (counter : ℕ) → counter + 2 ≤ 2 ^ 32 → IsSoundLast (Count (most_from counter))
 most_sound counter early = (omega (arith, early), omega arith)
 
-run_with : (id : Identifier) → IsIdentifier id → id.counter + 2 ≤ 2 ^ 32 → (more : List ℕ) × IsRunBehind (id_bytes id ++ more)
+run_with : (id : Identifier) → IsIdentifier id → id.counter + 2 ≤ 2 ^ 32 → (more : List ℕ) × IsRunAfter (id_bytes id ++ more)
 run_with id is early =
     let p = fields_sample 1 2 (Count (most_from id.counter)) (most_sound id.counter early) in
     (p.bytes, record { id = id; is_identifier = is; rest = p.bytes; fields = p.completes; split = refl })
@@ -213,7 +213,7 @@ scalar_done (suc n) (h ∷ m ∷ l ∷ x ∷ b) left long fits is = absurd (omeg
 pub leaves_none : (due : Due) → IsSoundDue due → LeavesDue [] due due
 leaves_none due s = record { rest = λ more. (λ t. t, λ t. t); sound = s }
 
--- what some bytes leave is left by those with others behind them, if these leave it of what the first leave
+-- what some bytes leave is left by those with others after them, if these leave it of what the first leave
 pub leaves_both : (due mid next : Due) (a b : List ℕ) → LeavesDue a due mid → LeavesDue b mid next → LeavesDue (a ++ b) due next
 leaves_both due mid next a b p q = record {
   rest = λ more. (
@@ -252,7 +252,7 @@ scalars_done most passed bytes few within fits left is =
     subst (λ l. LeavesDue l (Fields 0 0 (Scalars most)) (scalars_due (most - (passed + 1)))) joined
     (subst (λ n. LeavesDue (take (3 * passed) bytes ++ take 3 (drop (3 * passed) bytes)) (Fields 0 0 (Scalars most)) (scalars_due n)) (omega (arith, few)) both)
 
--- bytes that begin no scalar, with zeros behind them
+-- bytes that begin no scalar, with zeros after them
 one_floor : (ch h : ℕ) → IsScalar ch → byte_at 2 ch ≡ h → IsScalar (scalar_of_bytes h 0 0)
 one_floor ch h is first = grind (arith, nat_tests, scalar_below ch is)
 
@@ -309,11 +309,11 @@ run_front bytes short p =
       record {
         more = p.more ++ q.0;
         lacks = omega (arith, p.lacks, length-append p.more q.0);
-        completes = subst IsRunBehind (ap (λ (b : List ℕ). b ++ q.0) (sym p.whole.is) ∙ append_assoc bytes p.more q.0) q.1;
+        completes = subst IsRunAfter (ap (λ (b : List ℕ). b ++ q.0) (sym p.whole.is) ∙ append_assoc bytes p.more q.0) q.1;
       },
     )
 
-run_id : (bytes more : List ℕ) (p : IdentifierWith bytes []) (r : IsRunBehind (bytes ++ more)) → (p.id ≡ r.id) × (more ≡ r.rest)
+run_id : (bytes more : List ℕ) (p : IdentifierWith bytes []) (r : IsRunAfter (bytes ++ more)) → (p.id ≡ r.id) × (more ≡ r.rest)
 run_id bytes more p r = identifier_code.once p.id r.id more r.rest p.is_identifier r.is_identifier (ap (λ (b : List ℕ). b ++ more) (sym p.is ∙ append-nil bytes) ∙ r.split)
 
 pub run_done : (counter : ℕ) (bytes : List ℕ) (p : IdentifierWith bytes []) → p.id.counter ≡ counter → counter + 2 ≤ 2 ^ 32
@@ -372,9 +372,9 @@ high_front zero small = record { more = 1 ∷ letters 1; lacks = omega arith; co
 high_front (suc zero) small = record { more = 0 ∷ letters 256; lacks = omega arith; completes = letters_title 256 (omega arith) (omega arith) }
 high_front (suc (suc n)) small = absurd (omega (arith, small))
 
--- the text behind characters of it
-text_behind : (len : ℕ) (bytes more : List ℕ) → IsUtf8 bytes → IsTitleEnd len (bytes ++ more) → IsTitleEnd (len - length bytes) more
-text_behind len bytes more utf8 e =
+-- the text after characters of it
+text_after : (len : ℕ) (bytes more : List ℕ) → IsUtf8 bytes → IsTitleEnd len (bytes ++ more) → IsTitleEnd (len - length bytes) more
+text_after len bytes more utf8 e =
     let front : IsUtf8 (take (length bytes) (bytes ++ more)) = subst IsUtf8 (sym (take-append_seam bytes more)) utf8 in
     let boundary = IsCharBoundary-from_take (bytes ++ more) (length bytes) e.0 (omega (arith, length-append bytes more)) front in (
       subst IsUtf8 (drop-append_seam bytes more) (IsUtf8-drop (bytes ++ more) (length bytes) e.0 boundary),
@@ -403,13 +403,13 @@ pub text_done : (bytes : List ℕ) (len : ℕ) → IsUtf8 bytes → has_line_end
     → LeavesDue bytes (Fields 0 0 (Text len)) (text_due (len - length bytes))
 text_done bytes len utf8 one_line short most = record {
   rest = λ more. (
-    λ e. (text_is (len - length bytes) more).0 (text_behind len bytes more utf8 e),
+    λ e. (text_is (len - length bytes) more).0 (text_after len bytes more utf8 e),
     λ e. text_before len bytes more utf8 one_line short ((text_is (len - length bytes) more).1 e),
   );
   sound = sound_text (len - length bytes) (omega (arith, most));
 }
 
--- fields one behind the other
+-- fields one after the other
 four : (a b c d : List ℕ) → a ++ (b ++ (c ++ d)) ≡ a ++ b ++ c ++ d
 four a b c d = sym (append_assoc (a ++ b) c d ∙ append_assoc a b (c ++ d))
 
@@ -445,7 +445,7 @@ section_due g = record {
     fields (Single (Note id n c b)) more has e = absurd (cc e)
     fields (Typed run) more has e = absurd (cc e)
 
--- one scalar and nothing behind it
+-- one scalar and nothing after it
 one_scalar : {bytes : List ℕ} (t : Then IsScalarBytes IsNothing bytes) → bytes ≡ scalar_bytes t.2.0
 one_scalar t = t.4 ∙ (λ i. t.2.2 i ++ t.3 i) ∙ append-nil (scalar_bytes t.2.0)
 
@@ -534,13 +534,13 @@ note_due = record {
     )
     fields (Typed run) more has e = absurd (cc e)
 
--- scalars one behind the other
+-- scalars one after the other
 scalars_there : (text : List ℕ) → All IsScalar text → Several (length text) IsScalarBytes IsNothing (flat_map scalar_bytes text)
 scalars_there text all = subst (Several (length text) IsScalarBytes IsNothing) (append-nil (flat_map scalar_bytes text)) (several_of scalar IsNothing text [] all refl)
 
--- a run behind its first byte
-run_behind : (run : RunOf) → HasRunFrame run → IsRunBehind (drop 1 (run_frame run))
-run_behind run has = record {
+-- a run after its first byte
+run_after : (run : RunOf) → HasRunFrame run → IsRunAfter (drop 1 (run_frame run))
+run_after run has = record {
   id = run.id;
   is_identifier = has.id;
   rest = id_bytes run.section ++ (origin_bytes run.left ++ (origin_bytes run.right ++ text_bytes run.text));
@@ -578,7 +578,7 @@ pub record RunThere (bytes : List ℕ) : Type 0 where
   pub has_frame : HasRunFrame run
   pub is : bytes ≡ drop 1 (run_frame run)
 
-pub run_there : (bytes : List ℕ) → IsRunBehind bytes → RunThere bytes
+pub run_there : (bytes : List ℕ) → IsRunAfter bytes → RunThere bytes
 run_there bytes r =
     let f = r.fields in
     let c : IsCounted (most_from r.id.counter) f.3.3.1 = f.3.3.3 in
@@ -606,12 +606,12 @@ run_due = record {
   sound = tt;
 }
   where
-    behind : (item : Item) (more : List ℕ) → IsItem Version2 item → 4 ∷ more ≡ item_bytes item → IsRunBehind more
+    behind : (item : Item) (more : List ℕ) → IsItem Version2 item → 4 ∷ more ≡ item_bytes item → IsRunAfter more
     behind (Single (Section id l r t)) more has e = absurd (cc e)
     behind (Single (TextOp id s l r ch)) more has e = absurd (cc e)
     behind (Single (Delete id)) more has e = absurd (cc e)
     behind (Single (Note id n c b)) more has e = absurd (cc e)
-    behind (Typed run) more has e = subst IsRunBehind (sym (cc e)) (run_behind run has)
+    behind (Typed run) more has e = subst IsRunAfter (sym (cc e)) (run_after run has)
 
 -- nothing is due, and bytes came
 pub nothing_due : (last : Last) (bytes : List ℕ) → last ≡ Nothing → 0 < length bytes → (more : List ℕ) → IsLast last (bytes ++ more) → ⊥

@@ -19,7 +19,7 @@ bytes_of_number a b c d p q r s =
     let e0 : byte_at 0 (a * 16777216 + b * 65536 + c * 256 + d) ≡ d = omega arith in
     λ i. e3 i ∷ e2 i ∷ e1 i ∷ e0 i ∷ []
 
--- some bytes with others behind them are those of a number
+-- some bytes with others after them are those of a number
 pub record NumberWith (b more : List ℕ) : Type 0 where
   pub number : ℕ
   pub small : number < 2 ^ 32
@@ -37,7 +37,7 @@ four_there (w ∷ x ∷ []) long fits = absurd (omega (arith, long))
 four_there (w ∷ x ∷ y ∷ []) long fits = absurd (omega (arith, long))
 four_there (w ∷ x ∷ y ∷ z ∷ v ∷ b) long fits = absurd (omega (arith, long))
 
--- fewer than four bytes are a front of a number that is not 0, and has one behind it
+-- fewer than four bytes are a front of a number that is not 0, and has one after it
 pub record NumberFront (b : List ℕ) : Type 0 where
   pub more : List ℕ
   pub lacks : 0 < length more
@@ -55,7 +55,7 @@ short_number (w ∷ x ∷ []) short fits = with_one (w ∷ x ∷ []) (1 ∷ 1 �
 short_number (w ∷ x ∷ y ∷ []) short fits = with_one (w ∷ x ∷ y ∷ []) (1 ∷ []) w x y refl (omega arith) (fits 0) (fits 1) (fits 2)
 short_number (w ∷ x ∷ y ∷ z ∷ b) short fits = absurd (omega (arith, short))
 
--- some bytes with others behind them are those of an identifier
+-- some bytes with others after them are those of an identifier
 pub record IdentifierWith (b more : List ℕ) : Type 0 where
   pub id : Identifier
   pub is_identifier : IsIdentifier id
@@ -69,9 +69,9 @@ id_with b more r behind n some small is p = record {
   is = is ∙ ap (λ c. to_be_bytes w32 n ++ c) p.is;
 }
 
--- bytes behind the first four
-pub behind_four : (b : List ℕ) → AreBytes b → AreBytes (drop 4 b)
-behind_four b fits i = omega (arith, fits (4 + i), get_or-drop 4 b i 0)
+-- bytes after the first four
+pub after_four : (b : List ℕ) → AreBytes b → AreBytes (drop 4 b)
+after_four b fits i = omega (arith, fits (4 + i), get_or-drop 4 b i 0)
 
 -- an identifier of which a byte lacks at least, and of which there is a next one
 pub record IdentifierFront (b : List ℕ) : Type 0 where
@@ -95,7 +95,7 @@ replica_cut b short fits =
 pub counter_cut : (b : List ℕ) (n : ℕ) → b ≡ to_be_bytes w32 n ++ drop 4 b → 0 < n → n < 2 ^ 32 → length b < 8 → AreBytes b → IdentifierFront b
 unfolding id_with
 counter_cut b n is some small short fits =
-    let p = short_number (drop 4 b) (omega (arith, short, length-drop 4 b)) (behind_four b fits) in
+    let p = short_number (drop 4 b) (omega (arith, short, length-drop 4 b)) (after_four b fits) in
     record {
       more = p.more;
       lacks = p.lacks;
@@ -106,7 +106,7 @@ counter_cut b n is some small short fits =
 pub id_there : (b : List ℕ) (n : ℕ) → b ≡ to_be_bytes w32 n ++ drop 4 b → 0 < n → n < 2 ^ 32 → length b ≡ 8 → AreBytes b → IdentifierWith b []
 id_there b n is some small long fits =
     id_with b [] (drop 4 b) [] n some small (ap (λ c. c ++ []) is ∙ append_assoc (to_be_bytes w32 n) (drop 4 b) [])
-    (four_there (drop 4 b) (omega (arith, long, length-drop 4 b)) (behind_four b fits))
+    (four_there (drop 4 b) (omega (arith, long, length-drop 4 b)) (after_four b fits))
 
 -- the bytes of a number of three bytes
 pub bytes_of_code : (h m l : ℕ) → h < 256 → m < 256 → l < 256 → scalar_bytes (scalar_of_bytes h m l) ≡ h ∷ m ∷ l ∷ []

@@ -8,12 +8,12 @@ use Rattle.origin_model.specs.declared.grammar.Grammar.TheVariants.{Version2}
 use Rattle.origin_model.specs.frames.Frames.{IsBad, IsFrame, IsPartial}
 use Rattle.op_frame.specs.Firsts.{FrameOf, FirstIs}
 use Rattle.op_frame.specs.declared.first.First.TheVariants.{Whole, Prefix, Bad}
-use Rattle.op_frame.proofs.ReadingLemmas.{begins_not_partial, same_front}
+use Rattle.op_frame.proofs.ReadingLemmas.{begins_not_partial, common_prefix}
 
 -- one frame stands there
 same_frame : (ops others : List Op) (n m : ℕ) (bytes : List ℕ) → FrameOf ops n bytes → FrameOf others m bytes → (ops ≡ others) × (n ≡ m)
 same_frame ops others n m bytes p q =
-    let same = same_front Version2 _ _ (drop n bytes) (drop m bytes) p.1.is_frame q.1.is_frame (take-append-drop n bytes ∙ sym (take-append-drop m bytes)) in
+    let same = common_prefix Version2 _ _ (drop n bytes) (drop m bytes) p.1.is_frame q.1.is_frame (take-append-drop n bytes ∙ sym (take-append-drop m bytes)) in
     (same.ops, sym (length-take-le n bytes p.0) ∙ ap length same.bytes ∙ length-take-le m bytes q.0)
 
 pub first_whole : (ops : Vec Op Global) (n : ℕ) (bytes : List ℕ) → n ≤ length bytes → IsFrame Version2 (record { bytes = take n bytes; ops = ops.items })

@@ -52,7 +52,7 @@ operation = record { valid = HasFrame; spelling = frame }
 abbrev pub item : Grammar → Format Item
 item grammar = record { valid = IsItem grammar; spelling = item_bytes }
 
--- one format behind another
+-- one format after another
 abbrev pub join : {A B : Type 0} → Format A → Format B → Format (A × B)
 join first second = record { valid = λ pair. first.valid pair.0 × second.valid pair.1; spelling = λ pair. first.spelling pair.0 ++ second.spelling pair.1 }
 
@@ -60,7 +60,7 @@ join first second = record { valid = λ pair. first.valid pair.0 × second.valid
 abbrev pub Spelled : {T : Type 0} → Format T → List ℕ → Type 0
 Spelled {T} F bytes = (v : T) × F.valid v × (bytes ≡ F.spelling v)
 
--- equal bytes begin with one value, and one rest stands behind it
+-- equal bytes begin with one value, and one rest stands after it
 pub record IsCode {T : Type 0} (format : Format T) : Type 0 where
   pub once : (v w : T) (r s : List ℕ) → format.valid v → format.valid w → format.spelling v ++ r ≡ format.spelling w ++ s → (v ≡ w) × (r ≡ s)
 
@@ -96,14 +96,14 @@ code_join F G f g = record {
 
 -- what follows a field is known once the field is
 module _ {T : Type 0} (F : Format T) (code : IsCode F) (Rest : List ℕ → Type 0) where
-  pub behind_field : (bytes : List ℕ) → Then (Spelled F) Rest bytes → (v : T) (rest : List ℕ) → F.valid v → bytes ≡ F.spelling v ++ rest → Rest rest
-  behind_field bytes t v rest valid is =
+  pub after_field : (bytes : List ℕ) → Then (Spelled F) Rest bytes → (v : T) (rest : List ℕ) → F.valid v → bytes ≡ F.spelling v ++ rest → Rest rest
+  after_field bytes t v rest valid is =
       subst Rest (code.once t.2.0 v t.1 rest t.2.1 valid (ap (λ f. f ++ t.1) (sym t.2.2) ∙ sym t.4 ∙ is)).1 t.3
 
   pub field_done : (bytes : List ℕ) → Spelled F bytes → (more : List ℕ) → Then (Spelled F) Rest (bytes ++ more) ↔ Rest more
-  field_done bytes is more = (λ t. behind_field (bytes ++ more) t is.0 more is.1 (ap (λ b. b ++ more) is.2), λ r. (bytes, more, is, r, refl))
+  field_done bytes is more = (λ t. after_field (bytes ++ more) t is.0 more is.1 (ap (λ b. b ++ more) is.2), λ r. (bytes, more, is, r, refl))
 
--- values of one format, one behind the other, and then what follows them
+-- values of one format, one after the other, and then what follows them
 module _ {T : Type 0} (F : Format T) (Rest : List ℕ → Type 0) where
   pub several_of : (values : List T) (rest : List ℕ) → All F.valid values → Rest rest → Several (length values) (Spelled F) Rest (flat_map F.spelling values ++ rest)
   several_of [] rest all r = r

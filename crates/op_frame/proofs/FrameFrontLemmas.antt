@@ -1,4 +1,4 @@
--- What stands behind the fields of a frame that came, and in the one that is due.
+-- What stands after the fields of a frame that came, and in the one that is due.
 use Rattle.std.proofs.Common.{◌≡◌, ℕ, zero, suc, ◌+◌, ◌-◌, ◌<◌, ◌≤◌, List, [], ◌∷◌, ◌++◌, length, take, drop, set, refl, ap, sym, subst, ◌∙◌, append_assoc, arith, inl, inr}
 use Rattle.std.proofs.Common.{length-append}
 use Rattle.std.specs.Prelude.{◌↔◌, Option, Some, None, flat_map}
@@ -27,7 +27,7 @@ use Rattle.op_frame.proofs.FrameLemmas.{bad_goes_on}
 use Rattle.op_frame.proofs.ItemLemmas.{has_frame, has_run_frame}
 use Rattle.op_frame.proofs.ReadingLemmas.{begins_not_partial, item_some}
 
--- what the bytes are behind a field, and in it
+-- what the bytes are after a field, and in it
 module _ (g : Grammar) (due : Due) (before : List ℕ) (rest : (more : List ℕ) → IsFrameOf g (before ++ more) ↔ Completes due more) where
   pub is_front : (bytes : List ℕ) → IsDueFront due bytes → IsPartial g (before ++ bytes)
   is_front bytes p =
@@ -170,7 +170,7 @@ size_some (Fields zero zero Code) s = omega arith
 size_some (Fields zero zero Length) s = omega arith
 size_some (Fields zero zero (Body len)) s = s.0
 
--- behind a whole field the next is due
+-- after a whole field the next is due
 pub awaits_next : (g : Grammar) (due next : Due) (before bytes all : List ℕ) (came none : ℕ) → Awaits g due before came → LeavesDue bytes due next → before ++ bytes ≡ all
     → none ≡ 0 → Awaits g next all none
 awaits_next g due next before bytes all came none a p is at =
@@ -184,7 +184,7 @@ awaits_next g due next before bytes all came none a p is at =
       sound = p.sound;
     }
 
--- the bytes of the field, with the one that came, stand behind those before it
+-- the bytes of the field, with the one that came, stand after those before it
 pub with_field : (bytes : List ℕ) (len field byte : ℕ) → field ≤ len → len < length bytes
     → take field bytes ++ take (len + 1 - field) (drop field (set bytes len byte)) ≡ take len bytes ++ byte ∷ []
 with_field bytes len field byte p q =
@@ -192,6 +192,6 @@ with_field bytes len field byte p q =
     ap (λ t. t ++ take (len + 1 - field) (drop field (set bytes len byte))) (sym (take-set-le field bytes len byte p)) ∙ sym (take-add field (len + 1 - field) (set bytes len byte))
     ∙ ap (λ n. take n (set bytes len byte)) all ∙ take_more_set bytes len byte q
 
--- a front of the bytes with the field behind it
+-- a front of the bytes with the field after it
 pub next_field : (bytes : List ℕ) (at end : ℕ) → at ≤ end → take at bytes ++ take (end - at) (drop at bytes) ≡ take end bytes
 next_field bytes at end le = let all : at + (end - at) ≡ end = omega (arith, le) in sym (take-add at (end - at) bytes) ∙ ap (λ n. take n bytes) all

@@ -1,4 +1,4 @@
--- What stands behind bytes that begin no frame doesn't mend them.
+-- What stands after bytes that begin no frame doesn't mend them.
 use Rattle.std.proofs.Common.{◌≡◌, ℕ, List, [], ◌∷◌, ◌++◌, sym, ◌∙◌, inl, inr, arith, append_assoc, length-append}
 use Rattle.std.proofs.lemmas.List.{append-nil}
 use Rattle.origin_model.specs.declared.grammar.Grammar.{Grammar}

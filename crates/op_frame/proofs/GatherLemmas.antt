@@ -10,8 +10,8 @@ use Rattle.fugue_ids.specs.Identifiers.{Identifier}
 use Rattle.fugue_ids.specs.declared.op.Op.{Op}
 use Rattle.fugue_ids.specs.declared.op.Op.TheVariants.{Delete, Note, Section, Text}
 use Rattle.fugue_ids.specs.declared.run.RunStart.{RunStart}
-use Rattle.fugue_ids.specs.Runs.{id_behind, in_a_row, left_behind, next_id, run_from, start_behind, text_by, text_in}
-use Rattle.fugue_ids.proofs.RunLemmas.{length-typed, none_behind, typed-append}
+use Rattle.fugue_ids.specs.Runs.{id_after, in_a_row, left_after, next_id, run_from, start_after, text_by, text_in}
+use Rattle.fugue_ids.proofs.RunLemmas.{length-typed, none_after, typed-append}
 use Rattle.op_runs.specs.Deletions.{deletes_up}
 use Rattle.op_runs.proofs.DeletionLemmas.{deletes-append}
 use Rattle.outer_ports.specs.Sources.{SourceView}
@@ -20,8 +20,8 @@ use Rattle.origin_model.specs.frames.Frames.{Framed, IsFrame, Typed, run_ops, sc
 use Rattle.origin_model.proofs.SharedLemmas.{frame_wide, length-scalars}
 use Rattle.op_frame.specs.Firsts.{StartsWith}
 use Rattle.op_frame.specs.FrameFronts.{IsScalarBytes}
-use Rattle.op_frame.specs.Headers.{IsHeld, behind_held, held_ops, run_at, text_scalars}
-use Rattle.op_frame.specs.NextRuns.{Gathers, GathersDeletes, GathersOne, GathersTexts, GaveMore, GivesAll, GivesMany, GivesOn, IsOpFront, IsReachedOp, IsRunFront, IsTextBehind}
+use Rattle.op_frame.specs.Headers.{IsHeld, after_held, held_ops, run_at, text_scalars}
+use Rattle.op_frame.specs.NextRuns.{Gathers, GathersDeletes, GathersOne, GathersTexts, GaveMore, GivesAll, GivesMany, GivesOn, IsOpFront, IsReachedOp, IsRunFront, IsTextAfter}
 use Rattle.op_frame.specs.NextRuns.{RisesBy, TakesHeld, TakesTexts, start_in}
 use Rattle.op_frame.specs.declared.next_ops.NextOps.TheVariants.{Deletes, Run}
 use Rattle.op_frame.specs.Readers.{AnswersBy, FrameReading, Gave, Nexts, RisesByThree, held as held_back, read}
@@ -104,27 +104,27 @@ pub gives_then : (old mid new : FrameReading) (source : SourceView) (ops more : 
 gives_then old mid new source [] more same on = subst (λ (r : FrameReading). GivesOn r new source more) same on
 gives_then old mid new source (op ∷ ops) more p on = (p.0, p.1, gives_then p.0 mid new source ops more p.2 on)
 
--- so many behind the first, and so many more
-pub further : (start : RunStart) (n k : ℕ) → start_behind (start_behind start n) k ≡ start_behind start (n + k)
+-- so many after the first, and so many more
+pub further : (start : RunStart) (n k : ℕ) → start_after (start_after start n) k ≡ start_after start (n + k)
 further start n k = λ i. record { id = id_is i; section = start.section; left = left_is k i; right = start.right }
   where
-    id_is : id_behind (id_behind start.id n) k ≡ id_behind start.id (n + k)
+    id_is : id_after (id_after start.id n) k ≡ id_after start.id (n + k)
     id_is = let e : start.id.counter + n + k ≡ start.id.counter + (n + k) = omega arith in λ i. record { replica = start.id.replica; counter = e i }
 
-    left_is : (k : ℕ) → left_behind (left_behind start.left start.id n) (id_behind start.id n) k ≡ left_behind start.left start.id (n + k)
-    left_is zero = let e : n ≡ n + 0 = omega arith in ap (left_behind start.left start.id) e
+    left_is : (k : ℕ) → left_after (left_after start.left start.id n) (id_after start.id n) k ≡ left_after start.left start.id (n + k)
+    left_is zero = let e : n ≡ n + 0 = omega arith in ap (left_after start.left start.id) e
     left_is (suc k) =
         let e : suc (n + k) ≡ n + suc k = omega arith in
         let counter : start.id.counter + n + k ≡ start.id.counter + (n + k) = omega arith in
-        (λ i. Some (record { replica = start.id.replica; counter = counter i })) ∙ ap (left_behind start.left start.id) e
+        (λ i. Some (record { replica = start.id.replica; counter = counter i })) ∙ ap (left_after start.left start.id) e
 
 -- a run and what goes on with it
-pub run-append : (start : RunStart) (text more : List ℕ) → run_from start (text ++ more) ≡ run_from start text ++ run_from (start_behind start (length text)) more
+pub run-append : (start : RunStart) (text more : List ℕ) → run_from start (text ++ more) ≡ run_from start text ++ run_from (start_after start (length text)) more
 run-append start text more = typed-append start.id start.section start.left start.right text more
 
--- the first Text and those behind it
-pub run_behind_first : (start : RunStart) (ch : ℕ) (more : List ℕ) → run_from start (ch ∷ more) ≡ text_by start ch ∷ run_from (start_behind start 1) more
-run_behind_first start ch more = λ i. text_by start ch ∷ in_a_row (next_id start.id) start.section (Some (sym (none_behind start.id) i)) start.right more
+-- the first Text and those after it
+pub run_after_first : (start : RunStart) (ch : ℕ) (more : List ℕ) → run_from start (ch ∷ more) ≡ text_by start ch ∷ run_from (start_after start 1) more
+run_after_first start ch more = λ i. text_by start ch ∷ in_a_row (next_id start.id) start.section (Some (sym (none_after start.id) i)) start.right more
 
 -- Texts were gathered, and then more
 pub gathers_then : (start : RunStart) (a b c : List ℕ) (old mid new : FrameReading) → GathersTexts start a b old mid → GathersTexts start b c mid new
@@ -133,7 +133,7 @@ gathers_then start a b c old mid new p q = record {
   more = p.more ++ q.more;
   text_is = q.text_is ∙ ap (λ (l : List ℕ). l ++ q.more) p.text_is ∙ append_assoc a p.more q.more;
   gives = λ source. subst (GivesOn old new source) (sym parts)
-      (gives_then old mid new source (run_from (start_behind start (length a)) p.more) (run_from (start_behind start (length b)) q.more) (p.gives source) (q.gives source));
+      (gives_then old mid new source (run_from (start_after start (length a)) p.more) (run_from (start_after start (length b)) q.more) (p.gives source) (q.gives source));
   counters = q.counters;
   no_fault = q.no_fault;
   limit = q.limit ∙ p.limit;
@@ -143,9 +143,9 @@ gathers_then start a b c old mid new p q = record {
     long : length a + length p.more ≡ length b
     long = sym (length-append a p.more) ∙ ap length (sym p.text_is)
 
-    parts : run_from (start_behind start (length a)) (p.more ++ q.more) ≡ run_from (start_behind start (length a)) p.more ++ run_from (start_behind start (length b)) q.more
-    parts = run-append (start_behind start (length a)) p.more q.more
-        ∙ ap (λ (s : RunStart). run_from (start_behind start (length a)) p.more ++ run_from s q.more) (further start (length a) (length p.more) ∙ ap (start_behind start) long)
+    parts : run_from (start_after start (length a)) (p.more ++ q.more) ≡ run_from (start_after start (length a)) p.more ++ run_from (start_after start (length b)) q.more
+    parts = run-append (start_after start (length a)) p.more q.more
+        ∙ ap (λ (s : RunStart). run_from (start_after start (length a)) p.more ++ run_from s q.more) (further start (length a) (length p.more) ∙ ap (start_after start) long)
 
 -- none yet
 pub gathers_none : (start : RunStart) (text : List ℕ) (reader : FrameReading) → start.id.counter + length text ≤ 2 ^ 32 → reader.fault ≡ None
@@ -159,7 +159,7 @@ pub one_delete_more : (x : Identifier) (count : ℕ) (old mid new : FrameReading
 one_delete_more x count old mid new few p q = record {
   some = omega arith;
   gives = λ source. subst (GivesOn old new source) (sym parts)
-      (gives_then old mid new source (deletes_up (id_behind x 1) (count - 1)) (Delete (id_behind x count) ∷ []) (p.gives source) (q.gives source));
+      (gives_then old mid new source (deletes_up (id_after x 1) (count - 1)) (Delete (id_after x count) ∷ []) (p.gives source) (q.gives source));
   counters = omega (arith, q.counters);
   few = omega (arith, few);
   no_fault = q.no_fault;
@@ -169,12 +169,12 @@ one_delete_more x count old mid new few p q = record {
     some : 0 < count
     some = p.some
 
-    parts : deletes_up (id_behind x 1) (count + 1 - 1) ≡ deletes_up (id_behind x 1) (count - 1) ++ Delete (id_behind x count) ∷ []
+    parts : deletes_up (id_after x 1) (count + 1 - 1) ≡ deletes_up (id_after x 1) (count - 1) ++ Delete (id_after x count) ∷ []
     parts =
         let e : count + 1 - 1 ≡ (count - 1) + 1 = omega (arith, some) in
         let at : x.counter + 1 + (count - 1) ≡ x.counter + count = omega (arith, some) in
-        ap (deletes_up (id_behind x 1)) e ∙ deletes-append false (id_behind x 1) (count - 1) 1
-        ∙ (λ i. deletes_up (id_behind x 1) (count - 1) ++ Delete (record { replica = x.replica; counter = at i }) ∷ [])
+        ap (deletes_up (id_after x 1)) e ∙ deletes-append false (id_after x 1) (count - 1) 1
+        ∙ (λ i. deletes_up (id_after x 1) (count - 1) ++ Delete (record { replica = x.replica; counter = at i }) ∷ [])
 
 -- none yet
 pub no_delete_more : (x : Identifier) (reader : FrameReading) → x.counter < 2 ^ 32 → reader.fault ≡ None → GathersDeletes x 1 reader reader
@@ -184,7 +184,7 @@ no_delete_more x reader fits fault = record { some = omega arith; gives = λ sou
 pub gathers_row : (x : Identifier) (count : ℕ) (text : List ℕ) (old new : FrameReading) → text ≡ [] → GathersDeletes x count old new
     → Gathers (Delete x) (Deletes x count) text old new
 gathers_row x count text old new empty p = record {
-  others = deletes_up (id_behind x 1) (count - 1);
+  others = deletes_up (id_after x 1) (count - 1);
   ops_are = let e : count ≡ suc (count - 1) = omega (arith, p.some) in ap (deletes_up x) e;
   gives = p.gives;
   sound = (p.counters, p.few);
@@ -213,7 +213,7 @@ module _ (g : Grammar) (limit offset last : ℕ) (start : RunStart) (old_text te
           text_is = text_is;
           gives = λ source. subst
               (λ (l : List ℕ). GivesOn (standing g limit (held_ops (Some header) window) (drop (3 * header.count) window) offset last) (standing g limit [] l offset last) source
-              (run_from (start_behind start (length old_text)) scalars)) (sym rest)
+              (run_from (start_after start (length old_text)) scalars)) (sym rest)
               (subst (λ (s : RunStart). GivesOn (standing g limit (held_ops (Some header) window) (drop (3 * header.count) window) offset last)
               (standing g limit [] (drop (3 * header.count) window) offset last) source (run_from s scalars)) goes
               (gives_held_back g limit (held_ops (Some header) window) (drop (3 * header.count) window) offset last source inside));
@@ -230,7 +230,7 @@ module _ (g : Grammar) (limit offset last : ℕ) (start : RunStart) (old_text te
   pub gathers_frame : (len : ℕ) → offset + length window ≤ limit → TakesTexts g start old_text text window new len
       → GathersSome start old_text text (standing g limit [] window offset last) (standing g limit [] new (offset + len) offset)
   gathers_frame len inside t =
-      let next : RunStart = start_behind start (length old_text) in
+      let next : RunStart = start_after start (length old_text) in
       let size = frame_wide g (record { bytes = take len window; ops = run_from next t.more }) t.is_frame in
       let ops : length (run_from next t.more) ≡ length t.more = length-typed next.id next.section next.left next.right t.more in (
         record {
@@ -288,7 +288,7 @@ scalar_at header bytes h k within =
 pub scalars_within : (header : RunHeader) (bytes : List ℕ) → IsHeld bytes header → 3 * header.count ≤ length bytes
 scalars_within header bytes h = omega (arith, ap length h.split, length-append (flat_map scalar_bytes h.text) h.rest, length-scalars h.text, h.count)
 
--- a scalar at its place, put behind those before it
+-- a scalar at its place, put after those before it
 module _ (header : RunHeader) (bytes : List ℕ) (h : IsHeld bytes header) (k : ℕ) where
   abbrev pub from_place : List ℕ
   from_place = take (length bytes - 3 * k) (drop (3 * k) bytes)
@@ -317,16 +317,16 @@ module _ (header : RunHeader) (bytes : List ℕ) (h : IsHeld bytes header) (k : 
   put_all over old text before = before ∙ ap (λ (l : List ℕ). old ++ l) (take_all k (text_scalars header.count bytes) (omega (arith, over, scalars_long header bytes h)))
 
 -- the frame of one Text goes on with the run
-pub takes_text : (g : Grammar) (start : RunStart) (count ch len : ℕ) (bytes old_text text new : List ℕ) → count ≡ length old_text → IsTextBehind start count ch len bytes
+pub takes_text : (g : Grammar) (start : RunStart) (count ch len : ℕ) (bytes old_text text new : List ℕ) → count ≡ length old_text → IsTextAfter start count ch len bytes
     → text ≡ old_text ++ ch ∷ [] → new ≡ drop len bytes
     → TakesTexts g start old_text text bytes new len
 takes_text g start count ch len bytes old_text text new counted (fits, there) put rest =
-    let op : Op = text_by (start_behind start count) ch in
+    let op : Op = text_by (start_after start count) ch in
     record {
       more = ch ∷ [];
       some = omega arith;
       within = letter_within op len bytes there;
-      is_frame = subst (λ (n : ℕ). IsFrame g (record { bytes = take len bytes; ops = run_from (start_behind start n) (ch ∷ []) })) counted
+      is_frame = subst (λ (n : ℕ). IsFrame g (record { bytes = take len bytes; ops = run_from (start_after start n) (ch ∷ []) })) counted
           (letter_whole op len bytes there g tt);
       text_is = put;
       rest = rest;
@@ -348,7 +348,7 @@ module _ (g : Grammar) (header : RunHeader) (len : ℕ) (bytes : List ℕ) (f : 
       (subst (λ (b : List ℕ). IsHeld (drop (len - 3 * header.count) b) header) (sym same) (text_there header bytes len f.within f.header_is).held)
 
   -- it goes on with the run
-  pub takes_run_texts : (start : RunStart) (s old_text text new : List ℕ) → s ≡ bytes → start_in header ≡ start_behind start (length old_text)
+  pub takes_run_texts : (start : RunStart) (s old_text text new : List ℕ) → s ≡ bytes → start_in header ≡ start_after start (length old_text)
       → text ≡ old_text ++ text_scalars header.count (scalars_at s) → new ≡ drop len bytes
       → TakesTexts g start old_text text bytes new len
   takes_run_texts start s old_text text new same goes put rest =
@@ -359,13 +359,13 @@ module _ (g : Grammar) (header : RunHeader) (len : ℕ) (bytes : List ℕ) (f : 
       let place : scalars_at s ≡ drop (len - 3 * header.count) bytes
       = take_all (length s - (len - 3 * header.count)) (drop (len - 3 * header.count) s) (omega (arith, length-drop (len - 3 * header.count) s))
       ∙ ap (drop (len - 3 * header.count)) same in
-      let ops : run_from (start_behind start (length old_text)) scalars ≡ run_ops (run_at header f.header_is.text)
+      let ops : run_from (start_after start (length old_text)) scalars ≡ run_ops (run_at header f.header_is.text)
       = ap (λ (r : RunStart). run_from r scalars) (sym goes) ∙ ap (λ (b : List ℕ). run_from (start_in header) (text_scalars header.count b)) place ∙ t.ops in
       record {
         more = scalars;
         some = omega (arith, long, t.held.some);
         within = f.within;
-        is_frame = same_meaning g (take len bytes) (run_from (start_behind start (length old_text)) scalars) f.is_frame
+        is_frame = same_meaning g (take len bytes) (run_from (start_after start (length old_text)) scalars) f.is_frame
             (record { item = Typed (run_at header f.header_is.text); is_item = f.header_is.has_frame; bytes_are = f.header_is.bytes_are; ops_are = ops });
         text_is = put;
         rest = rest;
@@ -374,13 +374,13 @@ module _ (g : Grammar) (header : RunHeader) (len : ℕ) (bytes : List ℕ) (f : 
 
 -- the same, as the reader's own fields say it
 module _ (g : Grammar) (limit offset last : ℕ) (start : RunStart) (old_text text window new : List ℕ) (held : Option RunHeader) (fault : Option FrameFault) (none : fault ≡ None)
-    (inside : offset + length (behind_held held window) ≤ limit) where
+    (inside : offset + length (after_held held window) ≤ limit) where
   pub gathers_held_at : (header : RunHeader) → held ≡ Some header → IsHeld window header → TakesHeld true start header old_text text window new
       → GathersSome start old_text text (reading_at g limit held window offset last fault) (reading_at g limit None new offset last fault)
   gathers_held_at header is h took =
       subst (λ (f : Option FrameFault). GathersSome start old_text text (reading_at g limit held window offset last f) (reading_at g limit None new offset last f)) (sym none)
       (subst (λ (o : Option RunHeader). GathersSome start old_text text (reading_at g limit o window offset last None) (reading_at g limit None new offset last None)) (sym is)
-      (gathers_held g limit offset last start old_text text window new header h (subst (λ (o : Option RunHeader). offset + length (behind_held o window) ≤ limit) is inside) took))
+      (gathers_held g limit offset last start old_text text window new header h (subst (λ (o : Option RunHeader). offset + length (after_held o window) ≤ limit) is inside) took))
 
   pub gathers_frame_at : (len : ℕ) → held ≡ None → TakesTexts g start old_text text window new len
       → GathersSome start old_text text (reading_at g limit held window offset last fault) (reading_at g limit held new (offset + len) offset fault)
@@ -389,16 +389,16 @@ module _ (g : Grammar) (limit offset last : ℕ) (start : RunStart) (old_text te
       (sym none)
       (subst (λ (o : Option RunHeader). GathersSome start old_text text (reading_at g limit o window offset last None) (reading_at g limit o new (offset + len) offset None))
       (sym is)
-      (gathers_frame g limit offset last start old_text text window new len (subst (λ (o : Option RunHeader). offset + length (behind_held o window) ≤ limit) is inside) took))
+      (gathers_frame g limit offset last start old_text text window new len (subst (λ (o : Option RunHeader). offset + length (after_held o window) ≤ limit) is inside) took))
 
 -- the frame of a Delete, as the reader's own fields say it
 pub gathers_delete_at : (g : Grammar) (limit offset last : ℕ) (x : Identifier) (count len : ℕ) (window new : List ℕ) (held : Option RunHeader) (fault : Option FrameFault)
-    → fault ≡ None → offset + length (behind_held held window) ≤ limit → held ≡ None → x.counter + count < 2 ^ 32 → IsOpFront (Delete (id_behind x count)) len window
+    → fault ≡ None → offset + length (after_held held window) ≤ limit → held ≡ None → x.counter + count < 2 ^ 32 → IsOpFront (Delete (id_after x count)) len window
     → new ≡ drop len window
     → GathersOne x count (reading_at g limit held window offset last fault) (reading_at g limit held new (offset + len) offset fault)
 gathers_delete_at g limit offset last x count len window new (Some header) fault none inside is fits there rest = absurd (cc is)
 gathers_delete_at g limit offset last x count len window new None fault none inside is fits there rest =
-    let y : Identifier = id_behind x count in
+    let y : Identifier = id_after x count in
     record {
       gives = λ source. subst
           (λ (f : Option FrameFault). GivesOn (reading_at g limit None window offset last f) (reading_at g limit None new (offset + len) offset f) source (Delete y ∷ []))
@@ -425,10 +425,10 @@ pub gathers_run : (op : Op) (start : RunStart) (ch : ℕ) (one text : List ℕ) 
     → GathersTexts start one text old new
     → Gathers op (Run start) text old new
 gathers_run op start ch one text old new is first p = record {
-  others = run_from (start_behind start 1) p.more;
-  ops_are = ap (run_from start) (p.text_is ∙ ap (λ (l : List ℕ). l ++ p.more) first) ∙ run_behind_first start ch p.more
-      ∙ ap (λ (o : Op). o ∷ run_from (start_behind start 1) p.more) (sym (text_is_by op start ch is));
-  gives = λ source. subst (λ (l : List ℕ). GivesOn old new source (run_from (start_behind start (length l)) p.more)) first (p.gives source);
+  others = run_from (start_after start 1) p.more;
+  ops_are = ap (run_from start) (p.text_is ∙ ap (λ (l : List ℕ). l ++ p.more) first) ∙ run_after_first start ch p.more
+      ∙ ap (λ (o : Op). o ∷ run_from (start_after start 1) p.more) (sym (text_is_by op start ch is));
+  gives = λ source. subst (λ (l : List ℕ). GivesOn old new source (run_from (start_after start (length l)) p.more)) first (p.gives source);
   sound = p.counters;
   short = omega (arith, p.short, ap length p.text_is, length-append one p.more, ap length first);
 }
@@ -493,7 +493,7 @@ gives_many old new before after (op ∷ ops) p =
       no_fault = on.no_fault one.fault;
     }
 
--- an operation that is given, behind those before it
+-- an operation that is given, after those before it
 reached_on : (old new : FrameReading) (source : SourceView) (front : List Op) (op : Op) (more : List Op) → GivesOn old new source (front ++ op ∷ more)
     → IsReachedOp old source source front op
 reached_on old new source [] op more p = record { at = old; next = p.0; seen = source; gave = nothing_more old source; nexts = p.1; grammar = refl; limit = refl }
@@ -531,7 +531,7 @@ pub gives_with : (old mid new : FrameReading) (before after : SourceView) (op : 
 gives_with old mid new before after op ops others is nexts on = subst (GivesAll old new before after) (sym is) (mid, nexts, on)
 
 -- what is held back and not yet read is in the window
-pub had_within : (held : Option RunHeader) (window : List ℕ) → IfSome held (IsHeld window) → 3 * length (held_ops held window) + length (behind_held held window) ≤ length window
+pub had_within : (held : Option RunHeader) (window : List ℕ) → IfSome held (IsHeld window) → 3 * length (held_ops held window) + length (after_held held window) ≤ length window
 had_within None window h = omega arith
 had_within (Some header) window h =
     let scalars : List ℕ = text_scalars header.count window in

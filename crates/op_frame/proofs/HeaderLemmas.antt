@@ -16,8 +16,8 @@ use Rattle.origin_model.specs.declared.grammar.Grammar.TheVariants.{Version2}
 use Rattle.origin_model.specs.frames.Frames.{HasRunFrame, IsFrame, IsIdentifier, IsFrameOrigin, Run, Typed, id_bytes, origin_bytes, run_frame, run_ops, scalar_bytes, text_bytes}
 use Rattle.origin_model.proofs.SharedLemmas.{length-scalars}
 use Rattle.op_frame.specs.Firsts.{StartsWith}
-use Rattle.op_frame.specs.FrameFronts.{IsRunBehind, IsScalarBytes}
-use Rattle.op_frame.specs.Headers.{GivesHeld, HeaderIs, IsHeld, IsNextHeader, behind_held, held_ops, run_at, text_scalars}
+use Rattle.op_frame.specs.FrameFronts.{IsRunAfter, IsScalarBytes}
+use Rattle.op_frame.specs.Headers.{GivesHeld, HeaderIs, IsHeld, IsNextHeader, after_held, held_ops, run_at, text_scalars}
 use Rattle.op_frame.specs.Steps.{TakesOff}
 use Rattle.op_frame.specs.declared.header.RunHeader.{RunHeader}
 use Rattle.op_frame.proofs.CodeLemmas.{identifier_code, origin_code, scalar_code}
@@ -40,7 +40,7 @@ scalar_first header bytes h = by_text h.text h.scalars h.count h.split
           ∙ append_assoc (scalar_bytes c) (flat_map scalar_bytes text) h.rest,
     )
 
--- the first Text that is held back, and those behind it
+-- the first Text that is held back, and those after it
 module _ (header : RunHeader) (bytes : List ℕ) (c : ℕ) (h : IsHeld bytes header) (split : bytes ≡ scalar_bytes c ++ drop 3 bytes) (is : IsScalar c) where
   abbrev pub after : List ℕ
   after = drop 3 bytes
@@ -100,7 +100,7 @@ before_text run = 4 ∷ [] ++ id_bytes run.id ++ id_bytes run.section ++ origin_
 pub record TextThere (header : RunHeader) (bytes rest : List ℕ) (n : ℕ) (text : List ℕ) : Type 0 where
   pub held : IsHeld bytes header
   pub ops : held_ops (Some header) bytes ≡ run_ops (run_at header text)
-  pub behind : behind_held (Some header) bytes ≡ rest
+  pub behind : after_held (Some header) bytes ≡ rest
   pub within : 3 * header.count ≤ n
 
 pub text_there : (header : RunHeader) (bytes : List ℕ) (n : ℕ) → n ≤ length bytes → (is : HeaderIs header (take n bytes))
@@ -145,7 +145,7 @@ text_there header bytes n within is = record {
         ∙ drop-append_seam (before_text run) (flat_map scalar_bytes text ++ drop n bytes)
 
 -- the fields before the scalars, one after the other
-pub header_read : (rest r1 r2 r3 r4 : List ℕ) (id s : Identifier) (l r : Option Identifier) (n : ℕ) → IsRunBehind rest → IsIdentifier id → IsIdentifier s → IsFrameOrigin l
+pub header_read : (rest r1 r2 r3 r4 : List ℕ) (id s : Identifier) (l r : Option Identifier) (n : ℕ) → IsRunAfter rest → IsIdentifier id → IsIdentifier s → IsFrameOrigin l
     → IsFrameOrigin r
     → rest ≡ id_bytes id ++ r1 → r1 ≡ id_bytes s ++ r2 → r2 ≡ origin_bytes l ++ r3 → r3 ≡ origin_bytes r ++ r4 → n < 65536 → to_be_bytes w16 n ≡ get_or r4 0 0 ∷ get_or r4 1 0 ∷ []
     → HeaderIs (record { id = id; section = s; left = l; right = r; count = n }) (4 ∷ rest)
@@ -183,7 +183,7 @@ takes_run header held op old at new n within is there gives =
         bytes_are = is.bytes_are;
         ops_are = sym gives.first ∙ ap (held_ops (Some header)) there ∙ t.ops;
       };
-      rest = sym t.behind ∙ ap (behind_held (Some header)) (sym there) ∙ gives.behind;
+      rest = sym t.behind ∙ ap (after_held (Some header)) (sym there) ∙ gives.behind;
       held = gives.others;
       len = refl;
     }

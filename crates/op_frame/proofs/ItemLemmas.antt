@@ -30,7 +30,7 @@ run_code = code_join identifier (join identifier (join origin (join origin run_t
     (code_join identifier (join origin (join origin run_text)) identifier_code
     (code_join origin (join origin run_text) origin_code (code_join origin run_text origin_code run_text_code)))
 
--- behind the first byte
+-- after the first byte
 pub run_is : (run : Run) → drop 1 (run_frame run) ≡ run_fields.spelling (fields_of run)
 run_is run = regroup5 (id_bytes run.id) (id_bytes run.section) (origin_bytes run.left) (origin_bytes run.right) (text_bytes run.text)
 

@@ -11,7 +11,7 @@ use Rattle.op_frame.specs.Firsts.{IsLetter, IsLetterFrame, StartsWith}
 use Rattle.op_frame.specs.FrameFronts.{IsIdentifierBytes, IsOriginBytes, IsOwnFrame, IsScalarBytes, Then}
 use Rattle.op_frame.specs.NextRuns.{IsOpFront}
 use Rattle.op_frame.proofs.CodeLemmas.{identifier_code, origin_code}
-use Rattle.op_frame.proofs.FormatLemmas.{behind_field, identifier, origin}
+use Rattle.op_frame.proofs.FormatLemmas.{after_field, identifier, origin}
 use Rattle.op_frame.proofs.ItemLemmas.{of_each_version}
 use Rattle.op_frame.proofs.OperationLemmas.{regroup5}
 
@@ -22,7 +22,7 @@ known (Delete id) letter = tt
 known (Section id l r t) letter = absurd letter
 known (Note id n c b) letter = absurd letter
 
--- the fields of a Text, from one of them on, and anything behind them
+-- the fields of a Text, from one of them on, and anything after them
 abbrev FromRight : List ℕ → Type 0
 FromRight = Then IsOriginBytes (StartsWith IsScalarBytes)
 
@@ -73,25 +73,25 @@ letter_fields b t = by_op t.2.0 t.2.1 t.2.2 (t.4 ∙ ap (λ (f : List ℕ). f ++
 pub delete_fields : (rest : List ℕ) → StartsWith IsLetterFrame (3 ∷ rest) → StartsWith IsIdentifierBytes rest
 delete_fields rest t = elim (letter_fields (3 ∷ rest) t) [ inl p ↦ absurd (cc p.0) | inr p ↦ p.1 ]
 
--- where the fields of a Text end, one behind the other, the next one stands
+-- where the fields of a Text end, one after the other, the next one stands
 module _ (bytes : List ℕ) (t : StartsWith IsLetterFrame (2 ∷ bytes)) where
   pub from_id : FromId bytes
   from_id = elim (letter_fields (2 ∷ bytes) t) [ inl p ↦ p.1 | inr p ↦ absurd (cc p.0) ]
 
   module _ (id : Identifier) (a : List ℕ) (is : IsIdentifier id) (split : bytes ≡ id_bytes id ++ a) where
     pub from_section : FromSection a
-    from_section = behind_field identifier identifier_code FromSection bytes from_id id a is split
+    from_section = after_field identifier identifier_code FromSection bytes from_id id a is split
 
     module _ (section : Identifier) (b : List ℕ) (section_is : IsIdentifier section) (section_split : a ≡ id_bytes section ++ b) where
       pub from_left : FromLeft b
-      from_left = behind_field identifier identifier_code FromLeft a from_section section b section_is section_split
+      from_left = after_field identifier identifier_code FromLeft a from_section section b section_is section_split
 
       module _ (left : Option Identifier) (c : List ℕ) (left_is : IsFrameOrigin left) (left_split : b ≡ origin_bytes left ++ c) where
         pub from_right : FromRight c
-        from_right = behind_field origin origin_code FromRight b from_left left c left_is left_split
+        from_right = after_field origin origin_code FromRight b from_left left c left_is left_split
 
         pub from_scalar : (right : Option Identifier) (d : List ℕ) → IsFrameOrigin right → c ≡ origin_bytes right ++ d → StartsWith IsScalarBytes d
-        from_scalar right d is split = behind_field origin origin_code (StartsWith IsScalarBytes) c from_right right d is split
+        from_scalar right d is split = after_field origin origin_code (StartsWith IsScalarBytes) c from_right right d is split
 
 -- an operation's own frame that is no Section's and no Note's is a letter's
 pub letter_there : (bytes : List ℕ) → IsOwnFrame bytes → (get_or bytes 0 0 ≡ 1 → ⊥) → (get_or bytes 0 0 ≡ 5 → ⊥) → StartsWith IsLetterFrame bytes

@@ -1,4 +1,4 @@
--- What is due behind some bytes of a note's names, of its code, or of its body.
+-- What is due after some bytes of a note's names, of its code, or of its body.
 use Rattle.std.proofs.Common.{◌≡◌, ℕ, zero, suc, ◌-◌, ◌*◌, ◌+◌, ◌≤◌, List, [], ◌∷◌, ◌++◌, length, get_or, refl, ap, sym, subst, ◌∙◌, arith, length-append}
 use Rattle.std.specs.Prelude.{◌↔◌, All, flat_map}
 use Rattle.std.specs.Int.{to_be_bytes, w16}
@@ -114,14 +114,14 @@ pub all_bytes : (b : List ℕ) → AreBytes b → All IsByte b
 all_bytes [] fits = All-nil IsByte
 all_bytes (x ∷ b) fits = All-cons IsByte x b (fits 0) (all_bytes b (λ i. fits (suc i)))
 
-bytes_behind : (b more : List ℕ) → All IsByte (b ++ more) → All IsByte more
-bytes_behind [] more all = all
-bytes_behind (x ∷ b) more all = bytes_behind b more (All-tail IsByte x (b ++ more) all)
+bytes_after : (b more : List ℕ) → All IsByte (b ++ more) → All IsByte more
+bytes_after [] more all = all
+bytes_after (x ∷ b) more all = bytes_after b more (All-tail IsByte x (b ++ more) all)
 
 pub body_done : (bytes : List ℕ) (len : ℕ) → AreBytes bytes → length bytes ≤ len → len ≤ LONGEST_BODY → LeavesDue bytes (Fields 0 0 (Body len)) (body_due (len - length bytes))
 body_done bytes len fits short most = record {
   rest = λ more. (
-    λ e. (body_is (len - length bytes) more).0 (bytes_behind bytes more e.0, omega (arith, e.1, length-append bytes more)),
+    λ e. (body_is (len - length bytes) more).0 (bytes_after bytes more e.0, omega (arith, e.1, length-append bytes more)),
     λ c.
         let e = (body_is (len - length bytes) more).1 c in
         (All-append IsByte bytes more (all_bytes bytes fits) e.0, omega (arith, e.1, short, length-append bytes more)),

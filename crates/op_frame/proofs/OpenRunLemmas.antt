@@ -7,8 +7,8 @@ use Rattle.fugue_ids.specs.declared.op.Op.TheVariants.{Delete}
 use Rattle.fugue_ids.specs.Identifiers.{Identifier}
 use Rattle.op_runs.specs.Deletions.{deletes_by}
 use Rattle.fugue_ids.specs.declared.run.RunStart.{RunStart}
-use Rattle.fugue_ids.specs.Runs.{in_a_row, next_id, run_from, start_behind, text_by, text_in}
-use Rattle.fugue_ids.proofs.RunLemmas.{none_behind}
+use Rattle.fugue_ids.specs.Runs.{in_a_row, next_id, run_from, start_after, text_by, text_in}
+use Rattle.fugue_ids.proofs.RunLemmas.{none_after}
 use Rattle.origin_model.specs.frames.Frames.{HasFrame, frame}
 use Rattle.origin_model.specs.frames.Framings.{frames}
 use Rattle.op_frame.specs.OpenRuns.{Extends, ContinuesRun, IsCompleteRun, OpenRunFits, MakesRoom, TakesInOps, open_ops}
@@ -45,7 +45,7 @@ other_done opened text op rest other next ch more is goes =
     let same : op ≡ text_by next ch = cc is in
     cc (sym other ∙ ap text_in same)
 
--- the run was closed, and operations behind it were written that go on with nothing
+-- the run was closed, and operations after it were written that go on with nothing
 pub closes_then : (opened : Option RunStart) (text : List ℕ) (old mid new : List ℕ) (ops : List Op) → OpenRunFits opened text
     → ((rest : List Op) → IsCompleteRun opened text (ops ++ rest))
     → ((rest : List Op) → frames (ops ++ rest) ≡ frames ops ++ frames rest)
@@ -95,8 +95,8 @@ begins opened text next old new is apart fits has written = record {
             let e3 : next.right ≡ other.right = cc op in
             λ i. record { id = e0 i; section = e1 i; left = e2 i; right = e3 i }
 
-    first_is : next ≡ start_behind next 0
-    first_is = λ i. record { id = sym (none_behind next.id) i; section = next.section; left = next.left; right = next.right }
+    first_is : next ≡ start_after next 0
+    first_is = λ i. record { id = sym (none_after next.id) i; section = next.section; left = next.left; right = next.right }
 
 -- Texts go to those of the run
 pub goes_to : (opened : Option RunStart) (text : List ℕ) (next : RunStart) (more : List ℕ) → ContinuesRun opened text next
@@ -141,7 +141,7 @@ pub room_there : (opened : Option RunStart) (text : List ℕ) (next : RunStart) 
 room_there None text next goes = absurd goes
 room_there (Some start) text next goes = goes.1
 
--- an operation that is no Text, behind the run that was closed
+-- an operation that is no Text, after the run that was closed
 pub other_taken : (opened : Option RunStart) (text : List ℕ) (old mid new : List ℕ) (op : Op) → OpenRunFits opened text → text_in op ≡ None
     → All HasFrame (open_ops opened text) → mid ≡ old ++ frames (open_ops opened text) → HasFrame op → new ≡ mid ++ frame op
     → TakesInOps (open_ops opened text) [] old new (op ∷ [])

@@ -7,7 +7,7 @@ use Rattle.fugue_ids.specs.Runs.{in_a_row}
 use Rattle.outer_ports.specs.Sources.{SourceView}
 use Rattle.origin_model.specs.declared.grammar.Grammar.{Grammar}
 use Rattle.origin_model.specs.frames.Frames.{scalar_bytes}
-use Rattle.op_frame.specs.Headers.{GivesHeld, IsHeld, behind_held, held_ops, text_scalars}
+use Rattle.op_frame.specs.Headers.{GivesHeld, IsHeld, after_held, held_ops, text_scalars}
 use Rattle.op_frame.specs.Readers.{Advances, FrameReading, Nexts, StandsStill, StillWith, fault_after, held as held_back, kept_fault, read}
 use Rattle.op_frame.specs.Steps.{TakesFrontFrame}
 use Rattle.op_frame.specs.declared.fault.FrameFault.{FrameFault}
@@ -40,7 +40,7 @@ kept_on NoMemory = tt
 -- a reader that stands so
 abbrev pub reading_at : Grammar → (limit : ℕ) → Option RunHeader → List ℕ → (offset last : ℕ) → Option FrameFault → FrameReading
 reading_at g limit held window offset last fault =
-    record { grammar = g; limit = limit; todo = held_ops held window; unread = behind_held held window; offset = offset; last = last; fault = fault }
+    record { grammar = g; limit = limit; todo = held_ops held window; unread = after_held held window; offset = offset; last = last; fault = fault }
 
 stays_put : (old new : FrameReading) → old.todo ≡ [] → new.todo ≡ [] → new.offset ≡ old.offset → new.last ≡ old.last → StandsStill old new
 stays_put old new before after at last = record { none_before = before; none_after = after; offset = at; last = last }
@@ -53,7 +53,7 @@ advances_by old new result grammar limit inside within full stays fault =
 
 module _ (g : Grammar) (limit offset last : ℕ) (fault : Option FrameFault) (window new : List ℕ) (before after : SourceView) where
   -- no operation is given
-  pub nexts_none : (held : Option RunHeader) → held ≡ None → offset + length (behind_held held window) ≤ limit → fault ≡ None
+  pub nexts_none : (held : Option RunHeader) → held ≡ None → offset + length (after_held held window) ≤ limit → fault ≡ None
       → TakesFrontFrame g window new before after offset (limit - offset) (Ok None)
       → Nexts (reading_at g limit held window offset last fault) (reading_at g limit held new offset last fault) before after (Ok None)
   nexts_none (Some header) none inside no_fault t = absurd (cc none)
@@ -66,7 +66,7 @@ module _ (g : Grammar) (limit offset last : ℕ) (fault : Option FrameFault) (wi
   }
 
   -- the first operation of a frame is given
-  pub nexts_first : (held : Option RunHeader) (taken : Taken) → held ≡ None → offset + length (behind_held held window) ≤ limit → fault ≡ None
+  pub nexts_first : (held : Option RunHeader) (taken : Taken) → held ≡ None → offset + length (after_held held window) ≤ limit → fault ≡ None
       → TakesFrontFrame g window new before after offset (limit - offset) (Ok (Some taken))
       → Nexts (reading_at g limit held window offset last fault) (reading_at g limit taken.held new (offset + taken.len) offset fault) before after (Ok (Some taken.op))
   nexts_first (Some header) taken none inside no_fault t = absurd (cc none)
@@ -79,7 +79,7 @@ module _ (g : Grammar) (limit offset last : ℕ) (fault : Option FrameFault) (wi
   }
 
   -- a fault is met
-  pub nexts_fault : (held : Option RunHeader) (e : FrameFault) (kept : Option FrameFault) → held ≡ None → offset + length (behind_held held window) ≤ limit → kept ≡ kept_fault e
+  pub nexts_fault : (held : Option RunHeader) (e : FrameFault) (kept : Option FrameFault) → held ≡ None → offset + length (after_held held window) ≤ limit → kept ≡ kept_fault e
       → TakesFrontFrame g window new before after offset (limit - offset) (Err e)
       → Nexts (reading_at g limit held window offset last fault) (reading_at g limit held new offset last kept) before after (Err e)
   nexts_fault (Some header) e kept none inside is t = absurd (cc none)
@@ -98,7 +98,7 @@ module _ (g : Grammar) (limit offset last : ℕ) (fault : Option FrameFault) (wi
 -- the first of the operations that are held back is given
 pub nexts_held : (g : Grammar) (limit offset last : ℕ) (fault : Option FrameFault) (window new : List ℕ) (source : SourceView) (held : Option RunHeader) (header : RunHeader)
     (op : Op) (next : Option RunHeader) → held ≡ Some header
-    → offset + length (behind_held held window) ≤ limit → fault ≡ None → GivesHeld header op next window new
+    → offset + length (after_held held window) ≤ limit → fault ≡ None → GivesHeld header op next window new
     → Nexts (reading_at g limit held window offset last fault) (reading_at g limit next new offset last fault) source source (Ok (Some op))
 nexts_held g limit offset last fault window new source held header op next is inside no_fault gives = record {
   answer = λ none. let no : op ∷ held_ops next new ≡ [] = sym first ∙ none in absurd (cc no);
@@ -111,11 +111,11 @@ nexts_held g limit offset last fault window new source held header op next is in
     first : held_ops held window ≡ op ∷ held_ops next new
     first = ap (λ (h : Option RunHeader). held_ops h window) is ∙ gives.first
 
-    behind : behind_held held window ≡ behind_held next new
-    behind = ap (λ (h : Option RunHeader). behind_held h window) is ∙ gives.behind
+    behind : after_held held window ≡ after_held next new
+    behind = ap (λ (h : Option RunHeader). after_held h window) is ∙ gives.behind
 
 -- what is kept of the reader where no operation was held back
-pub still_within : (held : Option RunHeader) (limit offset : ℕ) (window new : List ℕ) → held ≡ None → offset + length (behind_held held window) ≤ limit
-    → length new ≤ limit - offset → (offset + length (behind_held held new) ≤ limit) × IfSome held (IsHeld new)
+pub still_within : (held : Option RunHeader) (limit offset : ℕ) (window new : List ℕ) → held ≡ None → offset + length (after_held held window) ≤ limit
+    → length new ≤ limit - offset → (offset + length (after_held held new) ≤ limit) × IfSome held (IsHeld new)
 still_within (Some header) limit offset window new none inside within = absurd (cc none)
 still_within None limit offset window new none inside within = (omega (arith, inside, within), tt)

@@ -51,8 +51,8 @@ module _ (g : Grammar) where
   pub framed_some : (framed : Framed) → IsFrame g framed → 0 < length framed.bytes
   framed_some framed is = omega (arith, item_some is.item, ap length is.bytes_are)
 
-  pub same_front : (f h : Framed) (r s : List ℕ) → IsFrame g f → IsFrame g h → f.bytes ++ r ≡ h.bytes ++ s → SameFront f h r s
-  same_front f h r s p q is =
+  pub common_prefix : (f h : Framed) (r s : List ℕ) → IsFrame g f → IsFrame g h → f.bytes ++ r ≡ h.bytes ++ s → SameFront f h r s
+  common_prefix f h r s p q is =
       let both = (item_code g).once p.item q.item r s p.is_item q.is_item
       (ap (λ (l : List ℕ). l ++ r) (sym p.bytes_are) ∙ is ∙ ap (λ (l : List ℕ). l ++ s) q.bytes_are) in
       record { bytes = p.bytes_are ∙ ap item_bytes both.0 ∙ sym q.bytes_are; ops = p.ops_are ∙ ap item_ops both.0 ∙ sym q.ops_are; rest = both.1 }
@@ -60,7 +60,7 @@ module _ (g : Grammar) where
   -- bytes that begin with a frame are no proper front of one
   pub begins_not_partial : (b : List ℕ) (framed : Framed) (rest : List ℕ) → Begins g b framed rest → IsPartial g b → ⊥
   begins_not_partial b framed rest begins p =
-      let same = same_front framed p.framed (rest ++ p.more) [] begins.is_frame p.is_frame
+      let same = common_prefix framed p.framed (rest ++ p.more) [] begins.is_frame p.is_frame
       (sym (append_assoc framed.bytes rest p.more) ∙ ap (λ (l : List ℕ). l ++ p.more) (sym begins.split) ∙ sym p.front ∙ sym (append-nil p.framed.bytes)) in
       omega (arith, ap length same.rest, length-append rest p.more, p.lacks)
 
@@ -82,7 +82,7 @@ module _ (g : Grammar) where
   same_end rest k (EndsBad j) (EndsCut l) p q = absurd (p.1.no_front q.2)
   same_end rest k (EndsBad j) (EndsBad l) p q = ap EndsBad (p.0 ∙ sym q.0)
 
-  -- frames with a rest behind them, and further frames in this rest
+  -- frames with a rest after them, and further frames in this rest
   record GoesOn (fs : List Framed) (r : List ℕ) (hs : List Framed) (s : List ℕ) : Type 0 where
     more : List Framed
     are_frames : All (IsFrame g) more
@@ -97,7 +97,7 @@ module _ (g : Grammar) where
   goes_on (f ∷ fs) r [] s p q same k end ends =
       absurd (not_ended s f (bytes_of fs ++ r) k end (record { is_frame = All-head (IsFrame g) f fs p; split = sym same ∙ append_assoc f.bytes (bytes_of fs) r }) ends)
   goes_on (f ∷ fs) r (h ∷ hs) s p q same k end ends =
-      let first = same_front f h (bytes_of fs ++ r) (bytes_of hs ++ s) (All-head (IsFrame g) f fs p) (All-head (IsFrame g) h hs q)
+      let first = common_prefix f h (bytes_of fs ++ r) (bytes_of hs ++ s) (All-head (IsFrame g) f fs p) (All-head (IsFrame g) h hs q)
       (sym (append_assoc f.bytes (bytes_of fs) r) ∙ same ∙ append_assoc h.bytes (bytes_of hs) s) in
       let behind = goes_on fs r hs s (All-tail (IsFrame g) f fs p) (All-tail (IsFrame g) h hs q) first.rest k end ends in
       record {
@@ -108,17 +108,17 @@ module _ (g : Grammar) where
         ops = (λ i. sym first.ops i ++ behind.ops i) ∙ sym (append_assoc f.ops (ops_of fs) (ops_of behind.more));
       }
 
-  -- behind an end stands no frame
-  none_behind : (more : List Framed) (r s : List ℕ) (k : ℕ) (end : End) → All (IsFrame g) more → r ≡ bytes_of more ++ s → EndsSo g r k end → more ≡ []
-  none_behind [] r s k end are is ends = refl
-  none_behind (f ∷ more) r s k end are is ends =
+  -- after an end stands no frame
+  none_after : (more : List Framed) (r s : List ℕ) (k : ℕ) (end : End) → All (IsFrame g) more → r ≡ bytes_of more ++ s → EndsSo g r k end → more ≡ []
+  none_after [] r s k end are is ends = refl
+  none_after (f ∷ more) r s k end are is ends =
       absurd (not_ended r f (bytes_of more ++ s) k end (record { is_frame = All-head (IsFrame g) f more are; split = is ∙ append_assoc f.bytes (bytes_of more) s }) ends)
 
   -- a stream is read in one way
   pub reads_once : (b : List ℕ) (ops others : List Op) (e f : End) → Reads g b ops e → Reads g b others f → (ops ≡ others) × (e ≡ f)
   reads_once b ops others e f p q =
       let both = goes_on p.found p.rest q.found q.rest p.are_frames q.are_frames (sym p.split ∙ q.split) (length (bytes_of q.found)) f q.ends in
-      let none = none_behind both.more p.rest q.rest (length (bytes_of p.found)) e both.are_frames both.rest p.ends in
+      let none = none_after both.more p.rest q.rest (length (bytes_of p.found)) e both.are_frames both.rest p.ends in
       let here : p.rest ≡ q.rest = both.rest ∙ ap (λ (fs : List Framed). bytes_of fs ++ q.rest) none in
       let at : bytes_of q.found ≡ bytes_of p.found = both.bytes ∙ ap (λ (fs : List Framed). bytes_of p.found ++ bytes_of fs) none ∙ append-nil (bytes_of p.found) in (
         p.ops_are ∙ sym (both.ops ∙ ap (λ (fs : List Framed). ops_of p.found ++ ops_of fs) none ∙ append-nil (ops_of p.found)) ∙ sym q.ops_are,
@@ -198,4 +198,4 @@ module _ (g : Grammar) where
 
 -- of frames at the front of the same bytes there is one
 pub frames_once : FramesOnce
-frames_once f h r s p q is = let same = same_front Version2 f h r s p q is in (same.ops, same.rest)
+frames_once f h r s p q is = let same = common_prefix Version2 f h r s p q is in (same.ops, same.rest)

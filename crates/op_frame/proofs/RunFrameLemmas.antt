@@ -1,4 +1,4 @@
--- The frame of a run, and what is written of operations behind others.
+-- The frame of a run, and what is written of operations after others.
 use Rattle.std.proofs.Common.{take, get_or, add-one, ◌≡◌, ℕ, zero, suc, ◌+◌, ◌<◌, ◌≤◌, Bool, true, false, List, [], ◌∷◌, ◌++◌, length, refl, ap, sym, ◌∙◌, arith, inl, inr}
 use Rattle.std.proofs.Common.{append_assoc, append-nil, length-append}
 use Rattle.std.specs.Prelude.{All, Option, Some, None, ◌&&◌, ◌^◌, nat_lt, if◌then◌else◌, flat_map}
@@ -14,12 +14,12 @@ use Rattle.fugue_ids.specs.Ops.{op_eq}
 use Rattle.fugue_ids.specs.declared.op.Op.{Op}
 use Rattle.fugue_ids.specs.declared.op.Op.TheVariants.{Section, Text, Delete, Note}
 use Rattle.fugue_ids.specs.declared.run.RunStart.{RunStart}
-use Rattle.fugue_ids.specs.Runs.{in_a_row, next_id, run_from, start_behind, text_by, text_in}
+use Rattle.fugue_ids.specs.Runs.{in_a_row, next_id, run_from, start_after, text_by, text_in}
 use Rattle.fugue_ids.proofs.OpLemmas.{op_eq-refl, op_eq-true}
 use Rattle.origin_model.specs.frames.Frames.{HasFrame, IsIdentifier, IsFrameOrigin, Item, Single, Typed, frame, item_bytes, run_frame, scalar_bytes}
 use Rattle.origin_model.specs.frames.Framings.{frames, item_with, items, items_from, longer, next_text, run_more, scalar_in}
 use Rattle.op_frame.specs.OpenRuns.{IsCompleteRun, open_ops, run_of}
-use Rattle.op_frame.proofs.GatherLemmas.{further, run_behind_first}
+use Rattle.op_frame.proofs.GatherLemmas.{further, run_after_first}
 
 -- the item that stands for the Texts of a run, of which the first has this scalar
 abbrev pub run_item : RunStart → ℕ → List ℕ → Item
@@ -36,16 +36,16 @@ item_more start ch (next ∷ text) c = refl
 
 -- the next Text is taken into the item
 takes_next : (start : RunStart) (ch : ℕ) (text : List ℕ) (c : ℕ) → length (ch ∷ text) < 1024
-    → item_with (run_item start ch text) (text_by (start_behind start (length (ch ∷ text))) c) ≡ Some (run_item start ch (text ++ c ∷ []))
+    → item_with (run_item start ch text) (text_by (start_after start (length (ch ∷ text))) c) ≡ Some (run_item start ch (text ++ c ∷ []))
 takes_next start ch text c room =
-    let op : Op = text_by (start_behind start (length (ch ∷ text))) c in
+    let op : Op = text_by (start_after start (length (ch ∷ text))) c in
     run_grown start ch text op
     ∙ ap (λ (b : Bool). if b then Some (Typed (run_more (run_of start (ch ∷ text)) c)) else None)
     (and_from (nat_lt (length (ch ∷ text)) 1024) (op_eq op op) (lt-ltb (length (ch ∷ text)) 1024 room) (op_eq-refl op))
     ∙ ap Some (item_more start ch text c)
 
 -- any other operation is not
-takes_no_other : (start : RunStart) (ch : ℕ) (text : List ℕ) (op : Op) → ((c : ℕ) → op ≡ text_by (start_behind start (length (ch ∷ text))) c → length (ch ∷ text) < 1024 → ⊥)
+takes_no_other : (start : RunStart) (ch : ℕ) (text : List ℕ) (op : Op) → ((c : ℕ) → op ≡ text_by (start_after start (length (ch ∷ text))) c → length (ch ∷ text) < 1024 → ⊥)
     → item_with (run_item start ch text) op ≡ None
 takes_no_other start ch text op none =
     let next : Op = next_text (run_of start (ch ∷ text)) (scalar_in op) in
@@ -65,19 +65,19 @@ begun item op rest o = elim o [ Some more ↦ items_from more rest | None ↦ it
 
 -- the Texts of a run are taken in one after another
 takes_run : (start : RunStart) (ch : ℕ) (text more : List ℕ) (rest : List Op) → length (ch ∷ text ++ more) ≤ 1024
-    → items_from (run_item start ch text) (run_from (start_behind start (length (ch ∷ text))) more ++ rest) ≡ items_from (run_item start ch (text ++ more)) rest
+    → items_from (run_item start ch text) (run_from (start_after start (length (ch ∷ text))) more ++ rest) ≡ items_from (run_item start ch (text ++ more)) rest
 takes_run start ch text [] rest short = ap (λ (t : List ℕ). items_from (run_item start ch t) rest) (sym (append-nil text))
 takes_run start ch text (c ∷ more) rest short =
     let item : Item = run_item start ch text in
-    let next : RunStart = start_behind start (length (ch ∷ text)) in
+    let next : RunStart = start_after start (length (ch ∷ text)) in
     let long : length (ch ∷ text) + 1 ≡ length (ch ∷ text ++ c ∷ []) = omega (arith, length-append text (c ∷ [])) in
     let room : length (ch ∷ text) < 1024 = omega (arith, short, length-append text (c ∷ more)) in
     let short' : length (ch ∷ (text ++ c ∷ []) ++ more) ≤ 1024 =
     omega (arith, short, length-append text (c ∷ more), length-append (text ++ c ∷ []) more, length-append text (c ∷ [])) in
     ap (λ (ops : List Op). items_from item (ops ++ rest))
-    (run_behind_first next c more ∙ ap (λ (s : RunStart). text_by next c ∷ run_from s more) (further start (length (ch ∷ text)) 1))
-    ∙ ap (λ (n : ℕ). items_from item (text_by next c ∷ run_from (start_behind start n) more ++ rest)) long
-    ∙ ap (begun item (text_by next c) (run_from (start_behind start (length (ch ∷ text ++ c ∷ []))) more ++ rest)) (takes_next start ch text c room)
+    (run_after_first next c more ∙ ap (λ (s : RunStart). text_by next c ∷ run_from s more) (further start (length (ch ∷ text)) 1))
+    ∙ ap (λ (n : ℕ). items_from item (text_by next c ∷ run_from (start_after start n) more ++ rest)) long
+    ∙ ap (begun item (text_by next c) (run_from (start_after start (length (ch ∷ text ++ c ∷ []))) more ++ rest)) (takes_next start ch text c room)
     ∙ takes_run start ch (text ++ c ∷ []) more rest short'
     ∙ ap (λ (t : List ℕ). items_from (run_item start ch t) rest) (append_assoc text (c ∷ []) more)
 
@@ -87,12 +87,12 @@ takes_no_more : (start : RunStart) (ch : ℕ) (text : List ℕ) (rest : List Op)
 takes_no_more start ch text [] done = refl
 takes_no_more start ch text (op ∷ rest) done =
     ap (begun (run_item start ch text) op rest)
-    (takes_no_other start ch text op (λ c is room. done (start_behind start (length (ch ∷ text))) c rest (ap (λ (o : Op). o ∷ rest) is) (refl, room)))
+    (takes_no_other start ch text op (λ c is room. done (start_after start (length (ch ∷ text))) c rest (ap (λ (o : Op). o ∷ rest) is) (refl, room)))
 
 run_then : (start : RunStart) (ch : ℕ) (text : List ℕ) (rest : List Op) → length (ch ∷ text) ≤ 1024 → IsCompleteRun (Some start) (ch ∷ text) rest
     → frames (run_from start (ch ∷ text) ++ rest) ≡ item_bytes (run_item start ch text) ++ frames rest
 run_then start ch text rest short done =
-    ap (λ (ops : List Op). frames (ops ++ rest)) (run_behind_first start ch text)
+    ap (λ (ops : List Op). frames (ops ++ rest)) (run_after_first start ch text)
     ∙ ap (flat_map item_bytes) (takes_run start ch [] text rest short ∙ takes_no_more start ch text rest done)
 
 -- the frame of a run alone
@@ -100,14 +100,14 @@ pub run_alone : (start : RunStart) (ch : ℕ) (text : List ℕ) → length (ch �
 run_alone start ch text short =
     ap frames (sym (append-nil (run_from start (ch ∷ text)))) ∙ run_then start ch text [] short (λ next c more is goes. cc is) ∙ append-nil (item_bytes (run_item start ch text))
 
--- a run that is done, and what is behind it
+-- a run that is done, and what is after it
 pub done_then : (opened : Option RunStart) (text : List ℕ) (rest : List Op) → length text ≤ 1024 → IsCompleteRun opened text rest
     → frames (open_ops opened text ++ rest) ≡ frames (open_ops opened text) ++ frames rest
 done_then None text rest short done = refl
 done_then (Some start) [] rest short done = refl
 done_then (Some start) (ch ∷ text) rest short done = run_then start ch text rest short done ∙ ap (λ (bytes : List ℕ). bytes ++ frames rest) (sym (run_alone start ch text short))
 
--- an operation that is no Text, and what is behind it
+-- an operation that is no Text, and what is after it
 pub other_then : (op : Op) (rest : List Op) → text_in op ≡ None → frames (op ∷ rest) ≡ frame op ++ frames rest
 other_then (Section id left right title) [] is = refl
 other_then (Section id left right title) (op ∷ rest) is = refl
@@ -129,7 +129,7 @@ run_frames id section left right (ch ∷ c ∷ text) own few s l r scalars =
     All-cons HasFrame (Text id section left right ch) (in_a_row (next_id id) section (Some id) right (c ∷ text)) (own, s, l, r, All-head IsScalar ch (c ∷ text) scalars)
     (run_frames (next_id id) section (Some id) right (c ∷ text) next (omega (arith, few)) s own r (All-tail IsScalar ch (c ∷ text) scalars))
 
--- Deletes of neighbours, and what is behind them
+-- Deletes of neighbours, and what is after them
 pub deletes_then : (down : Bool) (target : Identifier) (n : ℕ) (rest : List Op) → frames (deletes_by down target n ++ rest) ≡ frames (deletes_by down target n) ++ frames rest
 deletes_then true target zero rest = refl
 deletes_then true target (suc n) rest =

@@ -8,7 +8,7 @@ pub prepend_none : (left : Option (List ℕ)) → prepend_known [] left ≡ left
 prepend_none None = refl
 prepend_none (Some l) = refl
 
--- what holds of the first bytes with anything behind them holds of what is specified
+-- what holds of the first bytes with anything after them holds of what is specified
 pub shows : (P : List ℕ → Type 0) (front : List ℕ) (left specified : Option (List ℕ)) → specified ≡ prepend_known front left
     → ((rest : List ℕ) → left ≡ Some rest → P (front ++ rest))
     → IfSome specified P

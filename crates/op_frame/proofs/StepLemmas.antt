@@ -10,7 +10,7 @@ use Rattle.outer_ports.proofs.CountLemmas.{count_so, count_then}
 use Rattle.origin_model.specs.declared.grammar.Grammar.{Grammar}
 use Rattle.origin_model.specs.frames.Frames.{Framed, IsBad, IsPartial}
 use Rattle.op_frame.specs.FrameFronts.{AsksMemory, IsFrameOf}
-use Rattle.op_frame.specs.Headers.{behind_held, held_ops}
+use Rattle.op_frame.specs.Headers.{after_held, held_ops}
 use Rattle.op_frame.specs.Readers.{ReadingAnswerIs, AnswersBy, CarriesOffset, Moves}
 use Rattle.op_frame.specs.Refills.{Refills, Drops}
 use Rattle.op_frame.specs.Steps.{TakesFrontFrame, TakesFirst, TakesFrame, TakesOff, only_op, taken_held, taken_length}
@@ -48,7 +48,7 @@ module _ (g : Grammar) (old unread : List ℕ) (before now : SourceView) (offset
   ends_so : (new : List ℕ) (result : Result (Option Taken) FrameFault) → ((rest : List ℕ) → now.left ≡ Some rest → ReadingAnswerIs g (only_op result) offset room (unread ++ rest))
       → CarriesOffset (only_op result) offset → IfOk result (λ given. IfSome given (λ taken. TakesFirst g taken old new before.left now.left))
       → Moves (only_op result) old new before.left now.left
-      → length (behind_held (taken_held result) new) + taken_length result ≤ room → (IsErrOf result TooLong → ⊥) → (IsErrOf result ReadFault → ⊥)
+      → length (after_held (taken_held result) new) + taken_length result ≤ room → (IsErrOf result TooLong → ⊥) → (IsErrOf result ReadFault → ⊥)
       → TakesFrontFrame g old new before now offset room result
   ends_so new result is at first moves within short no_fault = record {
     answer = answer (only_op result) is;

@@ -96,10 +96,10 @@ read_before g framed rest ops end is r =
     (frames_before g (framed ∷ []) rest ops end (All-push (IsFrame g) [] framed (All-nil (IsFrame g)) is) r))
 
 -- what stands before bytes that are specified
-specified_behind : (front : List ℕ) (specified : Option (List ℕ)) (bytes : List ℕ) → Some bytes ≡ prepend_known front specified → (rest : List ℕ) × (specified ≡ Some rest)
+specified_after : (front : List ℕ) (specified : Option (List ℕ)) (bytes : List ℕ) → Some bytes ≡ prepend_known front specified → (rest : List ℕ) × (specified ≡ Some rest)
     × (bytes ≡ front ++ rest)
-specified_behind front None bytes is = absurd (cc is)
-specified_behind front (Some rest) bytes is = (rest, refl, cc is)
+specified_after front None bytes is = absurd (cc is)
+specified_after front (Some rest) bytes is = (rest, refl, cc is)
 
 -- the operation that was given was the first still to be given
 gave_first : (op : Op) (old new : FrameReading) (before after : Option (List ℕ)) (bytes : List ℕ) → new.grammar ≡ old.grammar → GivesOperation op old new before after
@@ -115,7 +115,7 @@ gave_first op old new before after bytes same (held todo unread offset last left
       (p.todo_is ∙ (λ i. todo i ++ both.0 i) ∙ ap (λ (l : List Op). op ∷ l) (sym q.todo_is), both.1 ∙ raised_none ends);
 }
 gave_first op old new before after bytes same (read none framed is ops moved offset last) specified =
-    let there = specified_behind framed.bytes (to_give new after) bytes (sym specified ∙ moved) in
+    let there = specified_after framed.bytes (to_give new after) bytes (sym specified ∙ moved) in
     record {
       front = framed.bytes;
       rest = there.0;
@@ -135,7 +135,7 @@ pub rises : (op : Op) (old new : FrameReading) (before after : Option (List ℕ)
 rises op old new before after (held todo unread offset last left) = omega (arith, ap length todo, offset)
 rises op old new before after (read none framed is ops moved offset last) = omega (arith, frame_wide old.grammar framed is, ap length ops, ap length none, offset)
 
--- the operations given, the rest behind them, and how it ends
+-- the operations given, the rest after them, and how it ends
 gave_reads : (specified : Option (List ℕ)) (ops : List Op) (reader : FrameReading) (left : Option (List ℕ)) (so : Gave specified ops reader left) → reader.todo ≡ []
     → (rest : List ℕ) (end : End)
     → EndsSo reader.grammar rest reader.offset end → Reads reader.grammar (bytes_of so.found ++ rest) ops end

@@ -68,7 +68,7 @@ letters_utf8 (suc n) = subst IsUtf8 (ap (λ (l : List ℕ). l ++ letters n) (enc
 pub letters_end : (n : ℕ) → IsTitleEnd n (letters n)
 letters_end n = (letters_utf8 n, letters_plain n, letters_long n)
 
--- where text is cut within a character, what is behind the text
+-- where text is cut within a character, what is after the text
 record Straddles (front more : List ℕ) (at : ℕ) : Type 0 where
   ch : ℕ
   scalar : IsScalar ch
@@ -153,7 +153,7 @@ module _ (len : ℕ) (front : List ℕ) where
   wide_none at place width valid here is wide more e =
       omega (arith, valid.short, wide, (cut_here front more at valid e.0).1, here, is, width_here front at place here, e.2)
 
-  -- text cut within a character that fits: the rest of the character, and letters behind it, may follow
+  -- text cut within a character that fits: the rest of the character, and letters after it, may follow
   pub cut_front : (at place width : ℕ) (fault : Option ℕ) → has_line_end front ≡ false → IsValidUpTo front at → IsErrorLen front at fault → fault ≡ utf8_error_len (drop at front)
       → is_some fault ≡ false → place ≡ at → width ≡ width_of (get_or front place 0) → width ≤ len - place → IsDueFront (Fields 0 0 (Text len)) front
   cut_front at place width None one_line valid near is none here wide small =

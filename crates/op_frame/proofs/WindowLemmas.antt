@@ -1,4 +1,4 @@
--- A part of a buffer, before and behind which bytes come and go.
+-- A part of a buffer, before and after which bytes come and go.
 use Rattle.std.proofs.Common.{◌≡◌, ℕ, ◌+◌, ◌-◌, ◌<◌, ◌≤◌, List, ◌++◌, length, take, drop, refl, ap, sym, ◌∙◌, arith, length-append, length-drop}
 use Rattle.std.specs.Prelude.{Result, Ok, Err}
 use Rattle.std.specs.Io.KnownBytes.{prepend_known}
@@ -12,10 +12,10 @@ use Rattle.fugue_ids.proofs.JoinLemmas.{prepend_twice}
 part_is : (s e : ℕ) (b : List ℕ) → s ≤ e → drop s (take e b) ≡ take (e - s) (drop s b)
 part_is s e b le = let is : e ≡ s + (e - s) = omega (arith, le) in ap (λ (k : ℕ). drop s (take k b)) is ∙ drop-take s (e - s) b
 
--- bytes placed behind a part
-placed_behind : (old part rest : List ℕ) (s e n : ℕ) → s ≤ e → e ≤ length old → n ≤ length part
+-- bytes placed after a part
+placed_after : (old part rest : List ℕ) (s e n : ℕ) → s ≤ e → e ≤ length old → n ≤ length part
     → take (e + n - s) (drop s (take e old ++ (part ++ rest))) ≡ take (e - s) (drop s old) ++ take n part
-placed_behind old part rest s e n le within enough =
+placed_after old part rest s e n le within enough =
     let long : length (take e old) ≡ e = length-take-le e old within in
     let behind : drop s (take e old ++ (part ++ rest)) ≡ drop s (take e old) ++ (part ++ rest) = drop-append-le s (take e old) (part ++ rest) (omega (arith, long, le)) in
     let front : drop s (take e old) ≡ take (e - s) (drop s old) = part_is s e old le in
@@ -34,7 +34,7 @@ written e to len items old new before after result p ordered within all =
     (ap length p.items ∙ length-append (take e old) (p.part ++ drop to old)
     ∙ omega (arith, p.long, ordered, within, all, length-take-le e old (omega (arith, ordered, within)), length-append p.part (drop to old), length-drop to old))
 
--- a window with what a read gave behind it
+-- a window with what a read gave after it
 pub filled_in : {E T : Type 0} (e : ℕ) (s : ℕ) (to most len n : ℕ) (items old new bytes : List ℕ) (before after : SourceView)
     → ReadsIntoPart {E = E} old new e to before after (Ok n)
     → s ≤ e → e < to → to ≤ length old → length old ≡ len → to - e ≤ most → old ≡ items → bytes ≡ take (e - s) (drop s items)
@@ -42,7 +42,7 @@ pub filled_in : {E T : Type 0} (e : ℕ) (s : ℕ) (to most len n : ℕ) (items 
 filled_in {E} {T} e s to most len n items old new bytes before after p le some within all fits same is =
     let moved : take (e + n - s) (drop s (take len (new ++ drop (length new) items))) ≡ bytes ++ take n p.part
     = ap (λ (l : List ℕ). take (e + n - s) (drop s l)) (written e to len items old new before after (Ok n) p (omega (arith, some)) within all ∙ p.items)
-    ∙ placed_behind old p.part (drop to old) s e n le (omega (arith, some, within)) p.read.bound
+    ∙ placed_after old p.part (drop to old) s e n le (omega (arith, some, within)) p.read.bound
     ∙ ap (λ (l : List ℕ). l ++ take n p.part) (ap (λ (l : List ℕ). take (e - s) (drop s l)) same ∙ sym is) in
     record {
       split = ap (prepend_known bytes) p.read.gave ∙ prepend_twice bytes (take n p.part) after.left ∙ ap (λ (l : List ℕ). prepend_known l after.left) (sym moved);
@@ -57,7 +57,7 @@ filled_in {E} {T} e s to most len n items old new bytes before after p le some w
       count = count_so _ _ p.read.count (λ is. is) (λ is. is);
     }
 
--- a window behind which nothing came
+-- a window after which nothing came
 pub not_filled_in : {E T : Type 0} (x : E) (y : T) (e : ℕ) (s : ℕ) (to most len : ℕ) (items old new bytes : List ℕ) (before after : SourceView)
     → ReadsIntoPart {E = E} old new e to before after (Err x)
     → s ≤ e → e ≤ to → to ≤ length old → length old ≡ len → old ≡ items → bytes ≡ take (e - s) (drop s items)
@@ -66,7 +66,7 @@ not_filled_in {E} {T} x y e s to most len items old new bytes before after p le 
     let moved : take (e - s) (drop s (take len (new ++ drop (length new) items))) ≡ bytes
     = ap (λ (l : List ℕ). take (e - s) (drop s l)) (written e to len items old new before after (Err x) p ordered within all ∙ p.items)
     ∙ ap (λ (k : ℕ). take k (drop s (take e old ++ (p.part ++ drop to old)))) (omega arith)
-    ∙ placed_behind old p.part (drop to old) s e 0 le (omega (arith, ordered, within)) (omega arith) ∙ append-nil (take (e - s) (drop s old))
+    ∙ placed_after old p.part (drop to old) s e 0 le (omega (arith, ordered, within)) (omega arith) ∙ append-nil (take (e - s) (drop s old))
     ∙ ap (λ (l : List ℕ). take (e - s) (drop s l)) same ∙ sym is in
     record {
       split = ap (prepend_known bytes) (sym p.read.kept) ∙ ap (λ (l : List ℕ). prepend_known l after.left) (sym moved);

@@ -46,10 +46,10 @@ IsLetter op = ⊥
 abbrev pub IsLetterFrame : List ℕ → Type 0
 IsLetterFrame bytes = (op : Op) × IsLetter op × HasFrame op × (bytes ≡ frame op)
 
--- a field, with anything behind it
+-- a field, with anything after it
 abbrev pub StartsWith : (List ℕ → Type 0) → List ℕ → Type 0
 StartsWith Field bytes = Then Field (λ rest. Unit {0}) bytes
 
--- behind its first byte, the bytes of the operation's frame
-abbrev pub IsFrameBehind : ℕ → Op → List ℕ → Type 0
-IsFrameBehind kind op rest = HasFrame op × (kind ∷ rest ≡ frame op)
+-- after its first byte, the bytes of the operation's frame
+abbrev pub IsFrameAfter : ℕ → Op → List ℕ → Type 0
+IsFrameAfter kind op rest = HasFrame op × (kind ∷ rest ≡ frame op)

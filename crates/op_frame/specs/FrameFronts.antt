@@ -1,4 +1,4 @@
--- What a frame still lacks behind some of its bytes.
+-- What a frame still lacks after some of its bytes.
 use Rattle.std.specs.Prelude.{◌≡◌, ◌↔◌, ◌⊎◌, ℕ, zero, suc, ◌+◌, ◌-◌, ◌*◌, ◌^◌, ◌<◌, ◌≤◌, min, nat_lt, if◌then◌else◌, All, List, [], ◌∷◌}
 use Rattle.std.specs.Prelude.{◌++◌, length, slice_get, false, Option, Some}
 use Rattle.std.specs.Char.{IsScalar}
@@ -119,8 +119,8 @@ AreFields identifiers origins last bytes = Several identifiers IsIdentifierBytes
 abbrev pub most_from : ℕ → ℕ
 most_from counter = min LONGEST_RUN (2 ^ 32 - counter)
 
--- a run behind its first byte: its first identifier bounds how many Texts it has
-pub record IsRunBehind (bytes : List ℕ) : Type 0 where
+-- a run after its first byte: its first identifier bounds how many Texts it has
+pub record IsRunAfter (bytes : List ℕ) : Type 0 where
   pub id : Identifier
   pub is_identifier : IsIdentifier id
   pub rest : List ℕ
@@ -130,7 +130,7 @@ pub record IsRunBehind (bytes : List ℕ) : Type 0 where
 -- the bytes are what is due
 abbrev pub Completes : Due → List ℕ → Type 0
 Completes (Kind grammar) bytes = (item : Item) × IsItem grammar item × (bytes ≡ item_bytes item)
-Completes Run bytes = IsRunBehind bytes
+Completes Run bytes = IsRunAfter bytes
 Completes (Fields identifiers origins last) bytes = AreFields identifiers origins last bytes
 
 -- there is something that the last field can be: a text or body that is due is not empty and not too long, and there
@@ -172,7 +172,7 @@ field_size (Fields (suc identifiers) origins last) = 8
 field_size (Fields zero (suc origins) last) = 1
 field_size (Fields zero zero last) = last_size last
 
--- what is due behind some bytes of what was due
+-- what is due after some bytes of what was due
 pub record LeavesDue (bytes : List ℕ) (due next : Due) : Type 0 where
   pub rest : (more : List ℕ) → Completes due (bytes ++ more) ↔ Completes next more
   pub sound : IsSoundDue next
@@ -183,7 +183,7 @@ pub record IsDueFront (due : Due) (bytes : List ℕ) : Type 0 where
   pub lacks : 0 < length more
   pub completes : Completes due (bytes ++ more)
 
--- no bytes behind these make them what is due
+-- no bytes after these make them what is due
 abbrev pub NeverCompletes : Due → List ℕ → Type 0
 NeverCompletes due bytes = (more : List ℕ) → Completes due (bytes ++ more) → ⊥
 
@@ -216,13 +216,13 @@ abbrev pub scalars_due : ℕ → Due
 scalars_due zero = Fields 0 0 Nothing
 scalars_due (suc n) = Fields 0 0 (Scalars (suc n))
 
--- behind these bytes, and so many of the field that is due, this makes a frame
+-- after these bytes, and so many of the field that is due, this makes a frame
 pub record Awaits (grammar : Grammar) (due : Due) (before : List ℕ) (came : ℕ) : Type 0 where
   pub rest : (more : List ℕ) → IsFrameOf grammar (before ++ more) ↔ Completes due more
   pub short : came < field_size due
   pub sound : IsSoundDue due
 
--- nothing is due behind a frame
+-- nothing is due after a frame
 abbrev pub grown_by : Due → Grown
 grown_by (Fields zero zero Nothing) = IsWhole
 grown_by due = IsFront

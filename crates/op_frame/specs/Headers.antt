@@ -39,13 +39,13 @@ abbrev pub held_ops : Option RunHeader → List ℕ → List Op
 held_ops None bytes = []
 held_ops (Some header) bytes = in_a_row header.id header.section header.left header.right (text_scalars header.count bytes)
 
--- the bytes behind their scalars
-abbrev pub behind_held : Option RunHeader → List ℕ → List ℕ
-behind_held None bytes = bytes
-behind_held (Some header) bytes = drop (3 * header.count) bytes
+-- the bytes after their scalars
+abbrev pub after_held : Option RunHeader → List ℕ → List ℕ
+after_held None bytes = bytes
+after_held (Some header) bytes = drop (3 * header.count) bytes
 
--- the header of the Texts behind the first: the second one stands behind the first
-pub record IsHeaderBehind (header next : RunHeader) : Type 0 where
+-- the header of the Texts after the first: the second one stands after the first
+pub record IsHeaderAfter (header next : RunHeader) : Type 0 where
   pub count : header.count ≡ next.count + 1
   pub some : 0 < next.count
   pub id : next.id ≡ next_id header.id
@@ -53,13 +53,13 @@ pub record IsHeaderBehind (header next : RunHeader) : Type 0 where
   pub left : next.left ≡ Some header.id
   pub right : next.right ≡ header.right
 
--- what the header becomes once the first Text was given: none behind the last Text
+-- what the header becomes once the first Text was given: none after the last Text
 abbrev pub IsNextHeader : RunHeader → Option RunHeader → Type 0
 IsNextHeader header None = header.count ≡ 1
-IsNextHeader header (Some next) = IsHeaderBehind header next
+IsNextHeader header (Some next) = IsHeaderAfter header next
 
 -- the first of the operations held back is given, and the others are held back
 pub record GivesHeld (header : RunHeader) (op : Op) (next : Option RunHeader) (bytes rest : List ℕ) : Type 0 where
   pub first : held_ops (Some header) bytes ≡ op ∷ held_ops next rest
-  pub behind : behind_held (Some header) bytes ≡ behind_held next rest
+  pub behind : after_held (Some header) bytes ≡ after_held next rest
   pub others : IfSome next (IsHeld rest)

@@ -31,7 +31,7 @@ pub record MeetsTooMany (grammar : Grammar) (hold most : ℕ) (start : Held) (by
   pub framed : Framed
   pub behind : List ℕ
   pub begins : Begins grammar rest framed behind
-  -- its operations: those taken in, the one that finds no place, and those behind it
+  -- its operations: those taken in, the one that finds no place, and those after it
   pub front : List Op
   pub op : Op
   pub more : List Op

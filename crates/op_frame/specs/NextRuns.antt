@@ -2,7 +2,7 @@
 use Rattle.std.specs.Prelude.{◌≡◌, ◌⊎◌, ℕ, ◌+◌, ◌-◌, ◌<◌, ◌≤◌, ◌^◌, ◌*◌, Bool, true, false, List, [], ◌∷◌, ◌++◌, length, take, drop, Option}
 use Rattle.std.specs.Prelude.{Some, None, Result, Ok, Err}
 use Rattle.fugue_ids.specs.Identifiers.{Identifier}
-use Rattle.fugue_ids.specs.Runs.{id_behind, run_from, start_behind, text_by}
+use Rattle.fugue_ids.specs.Runs.{id_after, run_from, start_after, text_by}
 use Rattle.fugue_ids.specs.declared.limits.TheConstants.{BUFFER}
 use Rattle.fugue_ids.specs.declared.op.Op.{Op}
 use Rattle.fugue_ids.specs.declared.op.Op.TheVariants.{Delete}
@@ -74,7 +74,7 @@ abbrev pub GivesManyBy : (old new : FrameReading) → (before after : SourceView
 GivesManyBy old new before after (Ok (Some given)) text = GivesMany old new before after (ops_given given text)
 GivesManyBy old new before after result text = Unit {0}
 
--- Of the operations that are given, one is reached behind those before it: by a call of `next`, from a reader that gave
+-- Of the operations that are given, one is reached after those before it: by a call of `next`, from a reader that gave
 -- these.
 pub record IsReachedOp (old : FrameReading) (before after : SourceView) (front : List Op) (op : Op) : Type 0 where
   pub at : FrameReading
@@ -98,11 +98,11 @@ pub record Gathers (first : Op) (given : NextOps) (text : List ℕ) (old new : F
   -- a scalar takes three bytes, and that of the operation itself was taken before
   pub short : 3 * length text + bytes_left new ≤ bytes_left old + 3
 
--- so many Texts more of a run were given, and their scalars went behind the text
+-- so many Texts more of a run were given, and their scalars went after the text
 pub record GathersTexts (start : RunStart) (old_text text : List ℕ) (old new : FrameReading) : Type 0 where
   pub more : List ℕ
   pub text_is : text ≡ old_text ++ more
-  pub gives : (source : SourceView) → GivesOn old new source (run_from (start_behind start (length old_text)) more)
+  pub gives : (source : SourceView) → GivesOn old new source (run_from (start_after start (length old_text)) more)
   pub counters : start.id.counter + length text ≤ 2 ^ 32
   pub no_fault : new.fault ≡ None
   pub limit : new.limit ≡ old.limit
@@ -113,18 +113,18 @@ abbrev pub GathersMore : Bool → RunStart → (old_text text : List ℕ) → (o
 GathersMore true start old_text text old new = GathersTexts start old_text text old new × RisesByThree old new × (new.offset ≤ new.limit)
 GathersMore false start old_text text old new = (text ≡ old_text) × (new ≡ old)
 
--- the Deletes behind this one were given, so many with it
+-- the Deletes after this one were given, so many with it
 pub record GathersDeletes (target : Identifier) (count : ℕ) (old new : FrameReading) : Type 0 where
   pub some : 0 < count
-  pub gives : (source : SourceView) → GivesOn old new source (deletes_up (id_behind target 1) (count - 1))
+  pub gives : (source : SourceView) → GivesOn old new source (deletes_up (id_after target 1) (count - 1))
   pub counters : target.counter + count ≤ 2 ^ 32
   pub few : count ≤ BUFFER
   pub no_fault : new.fault ≡ None
   pub short : bytes_left new ≤ bytes_left old
 
--- the Delete so many behind this one was given
+-- the Delete so many after this one was given
 pub record GathersOne (target : Identifier) (count : ℕ) (old new : FrameReading) : Type 0 where
-  pub gives : (source : SourceView) → GivesOn old new source (Delete (id_behind target count) ∷ [])
+  pub gives : (source : SourceView) → GivesOn old new source (Delete (id_after target count) ∷ [])
   pub counters : target.counter + count < 2 ^ 32
   pub no_fault : new.fault ≡ None
   pub short : bytes_left new ≤ bytes_left old
@@ -138,15 +138,15 @@ GathersDelete false target count old new = new ≡ old
 abbrev pub start_in : RunHeader → RunStart
 start_in header = record { id = header.id; section = header.section; left = header.left; right = header.right }
 
--- the scalars of the Texts that are held back went behind the text, or none of them
+-- the scalars of the Texts that are held back went after the text, or none of them
 abbrev pub PutsScalars : Bool → RunHeader → (bytes old_text text : List ℕ) → Type 0
 PutsScalars true header bytes old_text text = text ≡ old_text ++ text_scalars header.count bytes
 PutsScalars false header bytes old_text text = text ≡ old_text
 
--- the scalars of the Texts that are held back went behind the text, since these go on with the run, or nothing was done
+-- the scalars of the Texts that are held back went after the text, since these go on with the run, or nothing was done
 abbrev pub TakesHeld : Bool → RunStart → RunHeader → (old_text text old new : List ℕ) → Type 0
 TakesHeld true start header old_text text old new =
-    (start_in header ≡ start_behind start (length old_text)) × (text ≡ old_text ++ text_scalars header.count old)
+    (start_in header ≡ start_after start (length old_text)) × (text ≡ old_text ++ text_scalars header.count old)
     × (new ≡ drop (3 * header.count) old)
 TakesHeld false start header old_text text old new = (text ≡ old_text) × (new ≡ old)
 
@@ -157,9 +157,9 @@ pub record IsOpFront (op : Op) (len : ℕ) (bytes : List ℕ) : Type 0 where
   pub split : bytes ≡ frame op ++ rest
   pub len_is : len + length rest ≡ length bytes
 
--- the frame at the front is of the Text that stands so many behind the first of a run
-abbrev pub IsTextBehind : (start : RunStart) (count ch len : ℕ) (bytes : List ℕ) → Type 0
-IsTextBehind start count ch len bytes = (start.id.counter + count < 2 ^ 32) × IsOpFront (text_by (start_behind start count) ch) len bytes
+-- the frame at the front is of the Text that stands so many after the first of a run
+abbrev pub IsTextAfter : (start : RunStart) (count ch len : ℕ) (bytes : List ℕ) → Type 0
+IsTextAfter start count ch len bytes = (start.id.counter + count < 2 ^ 32) × IsOpFront (text_by (start_after start count) ch) len bytes
 
 -- the frame at the front is that of the Delete, and it was taken off, or nothing was done
 abbrev pub TakesDelete : (target : Identifier) → (old new : List ℕ) → Option ℕ → Type 0
@@ -172,12 +172,12 @@ pub record IsRunFront (grammar : Grammar) (header : RunHeader) (len : ℕ) (byte
   pub is_frame : IsFrameOf grammar (take len bytes)
   pub header_is : HeaderIs header (take len bytes)
 
--- the frame at the front is of Texts that go on with the run: their scalars went behind the text, and it was taken off
+-- the frame at the front is of Texts that go on with the run: their scalars went after the text, and it was taken off
 pub record TakesTexts (grammar : Grammar) (start : RunStart) (old_text text old new : List ℕ) (len : ℕ) : Type 0 where
   pub more : List ℕ
   pub some : 0 < length more
   pub within : len ≤ length old
-  pub is_frame : IsFrame grammar (record { bytes = take len old; ops = run_from (start_behind start (length old_text)) more })
+  pub is_frame : IsFrame grammar (record { bytes = take len old; ops = run_from (start_after start (length old_text)) more })
   pub text_is : text ≡ old_text ++ more
   pub rest : new ≡ drop len old
   pub counters : start.id.counter + length text ≤ 2 ^ 32

@@ -1,6 +1,6 @@
 -- Runs that are gathered until their frame is written.
 use Rattle.std.specs.Prelude.{◌≡◌, ℕ, ◌+◌, ◌<◌, ◌≤◌, ◌^◌, Option, Some, None, All, List, [], ◌∷◌, ◌++◌, length}
-use Rattle.fugue_ids.specs.Runs.{run_from, start_behind, text_by}
+use Rattle.fugue_ids.specs.Runs.{run_from, start_after, text_by}
 use Rattle.fugue_ids.specs.declared.op.Op.{Op}
 use Rattle.fugue_ids.specs.declared.run.RunStart.{RunStart}
 use Rattle.origin_model.specs.frames.Frames.{HasFrame, Run}
@@ -24,7 +24,7 @@ OpenRunFits (Some start) text = (length text ≤ LONGEST_RUN) × (start.id.count
 -- a Text that says `next` goes on with the open run, and its frame has room for it
 abbrev pub ContinuesRun : Option RunStart → List ℕ → RunStart → Type 0
 ContinuesRun None text next = ⊥
-ContinuesRun (Some start) text next = (next ≡ start_behind start (length text)) × (length text < LONGEST_RUN)
+ContinuesRun (Some start) text next = (next ≡ start_after start (length text)) × (length text < LONGEST_RUN)
 
 -- the open run has all Texts of its frame: the first operation to come is not of it
 abbrev pub IsCompleteRun : Option RunStart → List ℕ → List Op → Type 0
@@ -36,7 +36,7 @@ abbrev pub Extends : (old new : List ℕ) → Type 0
 Extends old new = (more : List ℕ) × (new ≡ old ++ more)
 
 -- Operations were taken in: some of the frames were written, and what is open still has to be. Whatever operations come
--- behind these, all frames are the same.
+-- after these, all frames are the same.
 pub record TakesInOps (old_open new_open : List Op) (old new : List ℕ) (ops : List Op) : Type 0 where
   pub frames_are : (rest : List Op) → old ++ frames (old_open ++ (ops ++ rest)) ≡ new ++ frames (new_open ++ rest)
   pub have_frames : (rest : List Op) → All HasFrame (new_open ++ rest) → All HasFrame (old_open ++ (ops ++ rest))

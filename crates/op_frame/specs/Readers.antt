@@ -58,13 +58,13 @@ ReadingAnswerIs grammar (Err TooLong) offset room bytes = (room < length bytes) 
 ReadingAnswerIs grammar (Err ReadFault) offset room bytes = Unit {0}
 ReadingAnswerIs grammar (Err NoMemory) offset room bytes = AsksMemory bytes
 
--- the bytes decide such an answer: it is no fault of the source, and no want of memory
+-- the bytes decide such an answer: it is no fault of the source, and no allocation failure
 abbrev pub IsReadByBytes : Result (Option Op) FrameFault → Type 0
 IsReadByBytes (Err ReadFault) = ⊥
 IsReadByBytes (Err NoMemory) = ⊥
 IsReadByBytes result = Unit {0}
 
--- each answer comes exactly where the bytes to read say so, but for a fault of the source and want of memory
+-- each answer comes exactly where the bytes to read say so, but for a fault of the source and an allocation failure
 pub record AnswersBy (grammar : Grammar) (result : Result (Option Op) FrameFault) (offset room : ℕ) (bytes : List ℕ) : Type 0 where
   pub exactly : IsReadByBytes result → (answer : Result (Option Op) FrameFault) → IsReadByBytes answer
       → (result ≡ answer) ↔ ReadingAnswerIs grammar answer offset room bytes
@@ -76,7 +76,7 @@ CarriesOffset (Err (BadFrame k)) offset = k ≡ offset
 CarriesOffset (Err (CutShort k)) offset = k ≡ offset
 CarriesOffset result offset = Unit {0}
 
--- the fault is answered for good, but for want of memory
+-- the fault is answered for good, but for lack of memory
 abbrev pub kept_fault : FrameFault → Option FrameFault
 kept_fault NoMemory = None
 kept_fault (BadFrame k) = Some (BadFrame k)
@@ -141,7 +141,7 @@ pub record Nexts (old new : FrameReading) (before after : SourceView) (result : 
   pub moves : Moves result old.unread new.unread before.left after.left
   pub advances : Advances old new result
 
--- the end of bytes behind a front of so many
+-- the end of bytes after a front of so many
 abbrev pub raised_end : ℕ → End → End
 raised_end n Whole = Whole
 raised_end n (EndsCutShort k) = EndsCutShort (n + k)
@@ -156,7 +156,7 @@ pub record HasTodo (r : FrameReading) (bytes : List ℕ) (todo : List Op) (end :
 -- The operation was the first still to be given. Afterwards the rest are, and the end is the same, but for the bytes
 -- that were read.
 pub record GaveFirst (op : Op) (old new : FrameReading) (left : Option (List ℕ)) (bytes : List ℕ) : Type 0 where
-  -- the bytes that were read, and those behind them
+  -- the bytes that were read, and those after them
   pub front : List ℕ
   pub rest : List ℕ
   pub split : bytes ≡ front ++ rest
@@ -171,7 +171,7 @@ answer_of_rest offset [] Whole = Ok None
 answer_of_rest offset [] (EndsCutShort k) = Err (CutShort (offset + k))
 answer_of_rest offset [] (EndsInBadFrame k) = Err (BadFrame (offset + k))
 
--- the reading decides such an answer: it is no fault of the source, no want of memory, and within the limit
+-- the reading decides such an answer: it is no fault of the source, no allocation failure, and within the limit
 abbrev pub IsByReading : Result (Option Op) FrameFault → Type 0
 IsByReading (Err ReadFault) = ⊥
 IsByReading (Err NoMemory) = ⊥
@@ -188,7 +188,7 @@ pub record GivesInOrder (old new : FrameReading) (before after : SourceView) (re
   pub memory : IsErrOf result NoMemory → (old.todo ≡ []) × IfSome (to_give old before.left) AsksMemory
 
 -- Of the bytes that were specified the reader gave these operations. With those held back they are those of the frames at
--- the front, and it stands behind these frames.
+-- the front, and it stands after these frames.
 pub record Gave (specified : Option (List ℕ)) (ops : List Op) (reader : FrameReading) (left : Option (List ℕ)) : Type 0 where
   pub found : List Framed
   pub are_frames : All (IsFrame reader.grammar) found
@@ -205,7 +205,7 @@ given_with ops result = ops
 abbrev pub AreFirst : Grammar → List Op → List ℕ → Type 0
 AreFirst grammar ops bytes = (all : List Op) (end : End) → Reads grammar bytes all end → (more : List Op) × (all ≡ ops ++ more)
 
--- how the bytes are read whose operations were given, by the answer behind these
+-- how the bytes are read whose operations were given, by the answer after these
 abbrev pub EndsBy : Grammar → (limit : ℕ) (ops : List Op) → Result (Option Op) FrameFault → List ℕ → Type 0
 EndsBy grammar limit ops (Ok None) bytes = (length bytes ≤ limit) × Reads grammar bytes ops Whole
 EndsBy grammar limit ops (Err (CutShort k)) bytes = (length bytes ≤ limit) × Reads grammar bytes ops (EndsCutShort k)
@@ -214,7 +214,7 @@ EndsBy grammar limit ops (Err (BadFrame k)) bytes =
 EndsBy grammar limit ops (Err TooLong) bytes = (limit < length bytes) × EndsWholeOrCutShort grammar (take limit bytes) ops
 EndsBy grammar limit ops result bytes = Unit {0}
 
--- what an answer adds, behind operations that were given of the bytes that were specified
+-- what an answer adds, after operations that were given of the bytes that were specified
 pub record Follows (specified : Option (List ℕ)) (ops : List Op) (old new : FrameReading) (after : SourceView)
     (result : Result (Option Op) FrameFault) : Type 0 where
   pub gave : (IsErrOf result TooLong → ⊥) → Gave specified (given_with ops result) new after.left

@@ -7,7 +7,7 @@ use Rattle.origin_model.specs.declared.grammar.Grammar.{Grammar}
 use Rattle.origin_model.specs.declared.grammar.Grammar.TheVariants.{Version2}
 use Rattle.origin_model.specs.frames.Frames.{Framed, IsFrame}
 use Rattle.op_frame.specs.FrameFronts.{AsksMemory}
-use Rattle.op_frame.specs.Headers.{IsHeld, behind_held, held_ops}
+use Rattle.op_frame.specs.Headers.{IsHeld, after_held, held_ops}
 use Rattle.op_frame.specs.Readers.{AnswersBy, CarriesOffset, Moves}
 use Rattle.op_frame.specs.declared.fault.FrameFault.{FrameFault}
 use Rattle.op_frame.specs.declared.fault.FrameFault.TheVariants.{TooLong, ReadFault, NoMemory}
@@ -33,11 +33,11 @@ taken_length result = 0
 -- the frame of n bytes at the front was taken off, but for the scalars of the operations that are held back
 pub record TakesOff (taken : Taken) (old new : List ℕ) (n : ℕ) : Type 0 where
   pub is_frame : IsFrame Version2 (record { bytes = take n old; ops = taken.op ∷ held_ops taken.held new })
-  pub rest : drop n old ≡ behind_held taken.held new
+  pub rest : drop n old ≡ after_held taken.held new
   pub held : IfSome taken.held (IsHeld new)
   pub len : taken.len ≡ n
 
--- the same, or memory was wanting for a title or a body
+-- the same, or memory ran out for a title or a body
 abbrev pub TakesFrame : (old new : List ℕ) → ℕ → Result (Option Taken) FrameFault → Type 0
 TakesFrame old new n (Ok (Some taken)) = TakesOff taken old new n
 TakesFrame old new n (Err NoMemory) = (new ≡ old) × AsksMemory old
@@ -49,7 +49,7 @@ pub record TakesFirst (grammar : Grammar) (taken : Taken) (old new : List ℕ) (
   pub is_frame : IsFrame grammar framed
   pub ops_are : framed.ops ≡ taken.op ∷ held_ops taken.held new
   pub len : taken.len ≡ length framed.bytes
-  pub split : prepend_known old before ≡ prepend_known framed.bytes (prepend_known (behind_held taken.held new) after)
+  pub split : prepend_known old before ≡ prepend_known framed.bytes (prepend_known (after_held taken.held new) after)
   pub held : IfSome taken.held (IsHeld new)
 
 -- how a call ends that takes the first frame off the bytes to read
@@ -59,6 +59,6 @@ pub record TakesFrontFrame (grammar : Grammar) (old new : List ℕ) (before afte
   pub at : CarriesOffset (only_op result) offset
   pub first : IfOk result (λ given. IfSome given (λ taken. TakesFirst grammar taken old new before.left after.left))
   pub moves : Moves (only_op result) old new before.left after.left
-  pub within : length (behind_held (taken_held result) new) + taken_length result ≤ room
+  pub within : length (after_held (taken_held result) new) + taken_length result ≤ room
   pub full : IsErrOf result TooLong → length new ≡ room
   pub count : KeepsCount before after (IsErrOf result ReadFault)

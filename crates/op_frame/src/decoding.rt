@@ -1,7 +1,7 @@
 //! Decodes a whole frame of one operation, not of a run; only a title or a note's body is allocated.
 ghost use Rattle.std.specs.Prelude.{◌≡◌, IfOk, IsErr};
 ghost use Rattle.origin_model.specs.frames.Frames.{HasFrame, IsBody, IsTitle, body_bytes, frame as frame_of, title_bytes};
-ghost use Rattle.op_frame.specs.Firsts.{IsFrameBehind};
+ghost use Rattle.op_frame.specs.Firsts.{IsFrameAfter};
 ghost use Rattle.op_frame.specs.FrameFronts.{AsksMemory, Completes, IsBodyBytes, IsLast, IsOwnFrame};
 ghost use Rattle.op_frame.specs.declared.due.Due.TheVariants.{Fields as FieldsDue};
 ghost use Rattle.op_frame.specs.declared.due.Last.TheVariants.{Names as NamesLast, Title as TitleLast};
@@ -35,7 +35,7 @@ pub fn decode(alloc: Global, frame: &[u8]) -> Result<Op, NoMemory>
 
 fn section(alloc: Global, rest: &[u8]) -> Result<Op, NoMemory>
     requires { Completes (FieldsDue 1 2 TitleLast) rest.now }
-    ensures { IfOk result (λ op. IsFrameBehind SECTION op rest.now) }
+    ensures { IfOk result (λ op. IsFrameAfter SECTION op rest.now) }
 {
     let mut fields = Fields { rest };
     let id = fields.identifier();
@@ -52,7 +52,7 @@ fn section(alloc: Global, rest: &[u8]) -> Result<Op, NoMemory>
 
 fn note(alloc: Global, rest: &[u8]) -> Result<Op, NoMemory>
     requires { Completes (FieldsDue 1 0 NamesLast) rest.now }
-    ensures { IfOk result (λ op. IsFrameBehind NOTE op rest.now) }
+    ensures { IfOk result (λ op. IsFrameAfter NOTE op rest.now) }
 {
     let mut fields = Fields { rest };
     let id = fields.identifier();
@@ -67,7 +67,7 @@ fn note(alloc: Global, rest: &[u8]) -> Result<Op, NoMemory>
     })
 }
 
-/// The title whose text stands behind the first two bytes.
+/// The title whose text stands after the first two bytes.
 fn title(alloc: Global, bytes: &[u8]) -> Result<Title, NoMemory>
     requires { IsLast TitleLast bytes.now }
     ensures { IfOk result (λ title. IsTitle title × (bytes.now ≡ title_bytes title)) }
@@ -82,7 +82,7 @@ fn title(alloc: Global, bytes: &[u8]) -> Result<Title, NoMemory>
     }
 }
 
-/// The body that stands behind the first two bytes.
+/// The body that stands after the first two bytes.
 fn body(alloc: Global, bytes: &[u8]) -> Result<Body, NoMemory>
     requires { IsBodyBytes bytes.now }
     ensures { IfOk result (λ body. IsBody body × (bytes.now ≡ body_bytes body)) }

@@ -1,7 +1,7 @@
 //! The state of the frame parser: the fields still to come, and the result of checking bytes of the next.
 use origin_model::Grammar;
 
-/// What a frame still lacks: all of it, a run behind its first byte, or so many identifiers, then so many origins, and
+/// What a frame still lacks: all of it, a run after its first byte, or so many identifiers, then so many origins, and
 /// then its last field.
 #[derive(Clone, Copy)]
 pub(crate) enum Due {
@@ -34,7 +34,7 @@ pub(crate) enum Last {
 /// What some bytes of the field are that is due.
 #[derive(Clone, Copy)]
 pub(crate) enum Judged {
-    /// All of it, and this is due behind it.
+    /// All of it, and this is due after it.
     Done(Due),
     /// Some of it.
     Front,

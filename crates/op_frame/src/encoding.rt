@@ -27,8 +27,8 @@ const LONGEST_HEADER: usize = 1 + 8 + 8 + 9 + 9 + 2;
 /// The longest frame, in bytes: that of the most Texts.
 pub const LONGEST_FRAME: usize = LONGEST_HEADER + 3 * LONGEST_RUN;
 
-/// The longest frame of one operation: that of a Note with its kind, its identifier, the most names behind their number,
-/// its code, and the longest body behind its length.
+/// The longest frame of one operation: that of a Note with its kind, its identifier, the most names after their number,
+/// its code, and the longest body after its length.
 const LONGEST_SINGLE: usize = 1 + 8 + 1 + 8 * MOST_NAMES + 1 + 2 + LONGEST_BODY;
 
 /// Appends the operation's own frame.

@@ -16,11 +16,11 @@ use fugue_ids::{ElementId, RunStart};
 pub(crate) fn expected_text(next: &RunStart, bytes: &[u8]) -> Option<(char, usize)>
     ensures { IfSome result (λ found. IsOpFront (text_by next.now found.0) found.1 bytes.now) }
 {
-    let rest = behind_kind(bytes, TEXT)?;
-    let rest = behind_identifier(rest, next.id)?;
-    let rest = behind_identifier(rest, next.section)?;
-    let rest = behind_origin(rest, next.left)?;
-    let rest = behind_origin(rest, next.right)?;
+    let rest = after_kind(bytes, TEXT)?;
+    let rest = after_identifier(rest, next.id)?;
+    let rest = after_identifier(rest, next.section)?;
+    let rest = after_origin(rest, next.left)?;
+    let rest = after_origin(rest, next.right)?;
     let ch = scalar(rest)?;
     has_text_frame(next, ch);
     Some((ch, bytes.len() - rest.len() + SCALAR_LEN))
@@ -30,14 +30,14 @@ pub(crate) fn expected_text(next: &RunStart, bytes: &[u8]) -> Option<(char, usiz
 pub(crate) fn expected_delete(target: ElementId, bytes: &[u8]) -> Option<usize>
     ensures { IfSome result (λ len. IsOpFront (DeleteOf target) len bytes.now) }
 {
-    let rest = behind_kind(bytes, DELETE)?;
-    let rest = behind_identifier(rest, target)?;
+    let rest = after_kind(bytes, DELETE)?;
+    let rest = after_identifier(rest, target)?;
     has_delete_frame(target);
     Some(bytes.len() - rest.len())
 }
 
-/// The bytes behind the first one, where it is that of a frame of this kind.
-fn behind_kind(bytes: &[u8], kind: u8) -> Option<&[u8]>
+/// The bytes after the first one, where it is that of a frame of this kind.
+fn after_kind(bytes: &[u8], kind: u8) -> Option<&[u8]>
     ensures { IfSome result (λ rest. bytes.now ≡ kind ∷ rest.now) }
 {
     if bytes.is_empty() || bytes[0] != kind {
@@ -46,8 +46,8 @@ fn behind_kind(bytes: &[u8], kind: u8) -> Option<&[u8]>
     Some(&bytes[1..])
 }
 
-/// The bytes behind this identifier, where it stands at the front.
-fn behind_identifier(bytes: &[u8], id: ElementId) -> Option<&[u8]>
+/// The bytes after this identifier, where it stands at the front.
+fn after_identifier(bytes: &[u8], id: ElementId) -> Option<&[u8]>
     ensures { IfSome result (λ rest. bytes.now ≡ id_bytes id ++ rest.now) }
 {
     if bytes.len() < 8 || number(bytes) != id.replica || number(&bytes[4..]) != id.counter {
@@ -56,12 +56,12 @@ fn behind_identifier(bytes: &[u8], id: ElementId) -> Option<&[u8]>
     Some(&bytes[8..])
 }
 
-/// The bytes behind this origin, where it stands at the front.
-fn behind_origin(bytes: &[u8], origin: Option<ElementId>) -> Option<&[u8]>
+/// The bytes after this origin, where it stands at the front.
+fn after_origin(bytes: &[u8], origin: Option<ElementId>) -> Option<&[u8]>
     ensures { IfSome result (λ rest. bytes.now ≡ origin_bytes origin ++ rest.now) }
 {
     match origin {
-        None => behind_kind(bytes, 0),
-        Some(id) => behind_identifier(behind_kind(bytes, 1)?, id),
+        None => after_kind(bytes, 0),
+        Some(id) => after_identifier(after_kind(bytes, 1)?, id),
     }
 }

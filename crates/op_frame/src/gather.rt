@@ -1,8 +1,8 @@
 //! Takes frames off the buffer that continue a run of Texts or a series of Deletes, to return all at once.
 ghost use Rattle.std.specs.Prelude.{◌≡◌, ◌<◌, ◌≤◌, ◌+◌, ◌^◌, IfSome, IsTrue, length, vec_capacity};
-ghost use Rattle.fugue_ids.specs.Runs.{id_behind, start_behind};
+ghost use Rattle.fugue_ids.specs.Runs.{id_after, start_after};
 ghost use Rattle.op_frame.specs.Headers.{IsHeld};
-ghost use Rattle.op_frame.specs.NextRuns.{IsRunFront, IsTextBehind, PutsScalars, TakesDelete, TakesFront, TakesHeld, start_in};
+ghost use Rattle.op_frame.specs.NextRuns.{IsRunFront, IsTextAfter, PutsScalars, TakesDelete, TakesFront, TakesHeld, start_in};
 
 use crate::expected::{expected_delete, expected_text};
 use crate::fields::first_scalar;
@@ -14,7 +14,8 @@ use crate::unread::Unread;
 use fugue_ids::{ElementId, RunStart};
 use origin_model::Grammar;
 
-/// Takes the scalars of the Texts that are held back, if these go on with the run. After want of memory nothing is done.
+/// Takes the scalars of the Texts that are held back, if these go on with the run. After an allocation failure nothing
+/// is done.
 pub(crate) fn take_held_texts(
     start: &RunStart,
     header: &RunHeader,
@@ -36,7 +37,7 @@ pub(crate) fn take_held_texts(
 }
 
 /// Takes the frame at the front off the bytes, if it is whole and its Texts go on with the run, and answers its length.
-/// After want of memory nothing is done.
+/// After an allocation failure nothing is done.
 pub(crate) fn take_texts(
     grammar: Grammar,
     start: &RunStart,
@@ -52,9 +53,9 @@ pub(crate) fn take_texts(
     }
 }
 
-/// The identifier so many behind this one, where there is one.
-pub(crate) fn target_behind(first: ElementId, count: u32) -> Option<ElementId>
-    ensures is { IfSome result (λ id. id ≡ id_behind first count) }
+/// The identifier so many after this one, where there is one.
+pub(crate) fn target_after(first: ElementId, count: u32) -> Option<ElementId>
+    ensures is { IfSome result (λ id. id ≡ id_after first count) }
     ensures fits { IfSome result (λ id. first.counter + count < 2 ^ 32) }
 {
     if count > u32::MAX - first.counter {
@@ -118,7 +119,7 @@ fn take_text(
     ensures takes { TakesFront grammar start.now text.old.items text.new.items unread.old.bytes unread.new.bytes result }
     ensures room { vec_capacity text.old ≤ vec_capacity text.new }
 {
-    let (ch, len) = text_behind(start, text, unread.as_slice())?;
+    let (ch, len) = text_after(start, text, unread.as_slice())?;
     match text.push(ch) {
         Ok(()) => {
             unread.skip(len);
@@ -128,10 +129,10 @@ fn take_text(
     }
 }
 
-/// The scalar and the length of the frame at the front of the bytes, where it is whole and that of the Text that goes on
-/// with the run. Behind the last counter there is none.
-fn text_behind(start: &RunStart, text: &Vec<char>, bytes: &[u8]) -> Option<(char, usize)>
-    ensures { IfSome result (λ found. IsTextBehind start.now (length text.now.items) found.0 found.1 bytes.now) }
+/// The scalar and the length of the frame at the front of the bytes, where it is whole and that of the Text that goes
+/// on with the run. After the last counter there is none.
+fn text_after(start: &RunStart, text: &Vec<char>, bytes: &[u8]) -> Option<(char, usize)>
+    ensures { IfSome result (λ found. IsTextAfter start.now (length text.now.items) found.0 found.1 bytes.now) }
 {
     let count = text.as_slice().len();
     if count > (u32::MAX - start.id.counter) as usize {
@@ -142,12 +143,12 @@ fn text_behind(start: &RunStart, text: &Vec<char>, bytes: &[u8]) -> Option<(char
 
 /// Whether the Texts go on with the run.
 fn is_next(start: &RunStart, text: &Vec<char>, header: &RunHeader) -> bool
-    ensures { IsTrue result → start_in header.now ≡ start_behind start.now (length text.now.items) }
+    ensures { IsTrue result → start_in header.now ≡ start_after start.now (length text.now.items) }
 {
     start.goes_on(text.as_slice().len(), &header.start())
 }
 
-/// Appends the scalars of the Texts that are held back. After want of memory there are none more.
+/// Appends the scalars of the Texts that are held back. After an allocation failure there are none more.
 fn put_scalars(header: &RunHeader, bytes: &[u8], text: &mut Vec<char>) -> bool
     requires { IsHeld bytes.now header.now }
     ensures puts { PutsScalars result header.now bytes.now text.old.items text.new.items }

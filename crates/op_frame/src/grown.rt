@@ -1,5 +1,5 @@
 //! What bytes are with one more appended: a whole frame, a proper prefix of one, or neither.
-/// What bytes are with one more behind them.
+/// What bytes are with one more after them.
 #[derive(Clone, Copy, Debug, PartialEq, Eq)]
 pub enum Grown {
     /// A frame.

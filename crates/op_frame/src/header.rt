@@ -1,6 +1,6 @@
 //! The fields of a run's frame before its scalars, and what they become as its Texts are returned in turn.
 ghost use Rattle.std.specs.Prelude.{◌≡◌, ◌<◌, ◌≤◌, ◌+◌, ◌^◌, ◌∷◌, drop};
-ghost use Rattle.op_frame.specs.FrameFronts.{IsRunBehind};
+ghost use Rattle.op_frame.specs.FrameFronts.{IsRunAfter};
 ghost use Rattle.op_frame.specs.Headers.{GivesHeld, HeaderIs, IsHeld, IsNextHeader};
 ghost use Rattle.op_frame.specs.NextRuns.{start_in};
 
@@ -21,9 +21,9 @@ pub(crate) struct RunHeader {
 }
 
 impl RunHeader {
-    /// The fields in front of the scalars, behind the first byte of a run's frame.
+    /// The fields in front of the scalars, after the first byte of a run's frame.
     pub(crate) fn read(rest: &[u8]) -> RunHeader
-        requires { IsRunBehind rest.now }
+        requires { IsRunAfter rest.now }
         ensures { HeaderIs result (RUN ∷ rest.now) }
     {
         let mut fields = Fields { rest };
@@ -53,7 +53,7 @@ impl RunHeader {
         }
     }
 
-    /// The first Text, whose scalar stands at the front of the bytes, and what is held back behind it.
+    /// The first Text, whose scalar stands at the front of the bytes, and what is held back after it.
     pub(crate) fn first(self, bytes: &[u8]) -> (Op, Option<RunHeader>)
         requires { IsHeld bytes.now self }
         ensures { GivesHeld self result.0 result.1 bytes.now (drop 3 bytes.now) }
@@ -68,7 +68,7 @@ impl RunHeader {
         (op, self.next())
     }
 
-    /// What is held back behind the first Text.
+    /// What is held back after the first Text.
     fn next(self) -> Option<RunHeader>
         requires some { 0 < self.count }
         requires fits { self.id.counter + self.count ≤ 2 ^ 32 }

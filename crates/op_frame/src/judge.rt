@@ -60,7 +60,7 @@ pub(crate) fn is_whole(due: Due) -> bool
     }
 }
 
-/// What bytes are behind which this is due.
+/// What bytes are after which this is due.
 pub(crate) fn grown_by(due: Due) -> Grown
     ensures { result ≡ by_due due }
 {

@@ -30,7 +30,7 @@ pub(crate) fn scalar_of(high: u8, middle: u8, low: u8) -> Option<char>
     char::from_u32(u32::from_be_bytes([0, high, middle, low]))
 }
 
-/// The byte at this place, 0 behind the last.
+/// The byte at this place, 0 after the last.
 pub(crate) fn byte_or_0(bytes: &[u8], at: usize) -> u8
     ensures { result ≡ get_or bytes.now at 0 }
 {

@@ -90,7 +90,7 @@ impl OpenRun {
         Ok(())
     }
 
-    /// Takes Texts at the front of a run in, as many as one frame has room for, and answers how many.
+    /// Takes Texts at the front of a run in, as many as one frame has room for, and returns how many.
     fn take_front(
         &mut self,
         start: &RunStart,

@@ -11,14 +11,14 @@ pub(crate) const NOTE: u8 = 5;
 /// The first byte of a run's frame.
 pub const RUN: u8 = 4;
 
-/// What begins a session's text, with a cursor behind it.
+/// What begins a session's text, with a cursor after it.
 pub const GREETING: u8 = 0x48;
 
 /// What ends a session's text.
 pub const CLOSING: u8 = 0x44;
 
-/// What ends the reply to a session, with the log's length behind it.
+/// What ends the reply to a session, with the log's length after it.
 pub const END: u8 = 0x55;
 
-/// What begins the reply to a session whose text breaks a rule, with the rule's code behind it.
+/// What begins the reply to a session whose text breaks a rule, with the rule's code after it.
 pub const REFUSAL: u8 = 0x58;

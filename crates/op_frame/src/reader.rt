@@ -11,7 +11,7 @@ ghost use Rattle.op_frame.specs.declared.fault.FrameFault.TheVariants.{ReadFault
 
 use crate::FrameFault;
 use crate::encoding::LONGEST_RUN;
-use crate::gather::{take_delete, take_held_texts, take_texts, target_behind};
+use crate::gather::{take_delete, take_held_texts, take_texts, target_after};
 use crate::header::RunHeader;
 use crate::next_ops::NextOps;
 use crate::step::{take_held, take_next};
@@ -39,7 +39,7 @@ pub struct FrameReader {
 
 impl Model for FrameReader {
     ghost use Rattle.std.specs.Prelude.{◌≡◌, ◌≤◌, ◌+◌, length, IfSome, Some};
-    ghost use Rattle.op_frame.specs.Headers.{IsHeld, behind_held, held_ops};
+    ghost use Rattle.op_frame.specs.Headers.{IsHeld, after_held, held_ops};
     ghost use Rattle.op_frame.specs.Readers.{FrameReading, kept_fault};
 
     ghost Value = { FrameReading };
@@ -48,13 +48,13 @@ impl Model for FrameReader {
       grammar = r.grammar;
       limit = r.limit;
       todo = held_ops r.held r.unread.bytes;
-      unread = behind_held r.held r.unread.bytes;
+      unread = after_held r.held r.unread.bytes;
       offset = r.offset;
       last = r.last;
       fault = r.fault;
     } };
 
-    ghost invariant = { λ r. (r.offset + length (behind_held r.held r.unread.bytes) ≤ r.limit)
+    ghost invariant = { λ r. (r.offset + length (after_held r.held r.unread.bytes) ≤ r.limit)
         × IfSome r.fault (λ f. kept_fault f ≡ Some f) × IfSome r.held (IsHeld r.unread.bytes) };
 }
 
@@ -194,7 +194,7 @@ impl FrameReader {
         NextOps::Run(start)
     }
 
-    /// Gives the Deletes that go on with this one, and answers how many they are with it.
+    /// Gives the Deletes that go on with this one, and returns how many they are with it.
     fn gather_deletes(&mut self, first: ElementId) -> u32
         requires { self.old.fault ≡ None }
         ensures { GathersDeletes first result self.old self.new }
@@ -208,7 +208,7 @@ impl FrameReader {
         count
     }
 
-    /// Gives the Delete of the identifier so many behind this one, if that stands next.
+    /// Gives the Delete of the identifier so many after this one, if that stands next.
     fn gather_delete(&mut self, first: ElementId, count: u32) -> bool
         requires { self.old.fault ≡ None }
         ensures { GathersDelete result first count self.old self.new }
@@ -216,7 +216,7 @@ impl FrameReader {
         if self.held.is_some() {
             return false;
         }
-        let Some(target) = target_behind(first, count) else {
+        let Some(target) = target_after(first, count) else {
             return false;
         };
         let Some(len) = take_delete(target, &mut self.unread) else {

@@ -7,8 +7,8 @@ use crate::unread::Unread;
 use fugue_ids::BUFFER;
 use outer_ports::Source;
 
-/// Takes more bytes of the source, which has at most `room` of them left before the limit. The answer is false at
-/// the source's end.
+/// Takes more bytes of the source, which has at most `room` of them left before the limit. Returns false at the
+/// source's end.
 pub(crate) fn refill<S: Source>(
     unread: &mut Unread,
     room: u64,

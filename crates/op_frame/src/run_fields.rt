@@ -9,7 +9,7 @@ use crate::due::{Due, Judged, Last};
 use crate::encoding::LONGEST_RUN;
 use crate::number::{byte_or_0, number, scalar_of, short_number};
 
-/// The first identifier of a run: there is no replica 0, and the last counter has none behind it.
+/// The first identifier of a run: there is no replica 0, and the last counter has none after it.
 pub(crate) fn judge_first(bytes: &[u8]) -> Judged
     requires { length bytes.now ≤ 8 }
     ensures { IsJudged result RunDue bytes.now }
@@ -56,7 +56,7 @@ pub(crate) fn judge_count(most: usize, bytes: &[u8]) -> Judged
     Judged::Done(Due::Fields(0, 0, Last::Scalars(count)))
 }
 
-/// Fewer than three bytes begin a scalar exactly where they do so with zeros behind them.
+/// Fewer than three bytes begin a scalar exactly where they do so with zeros after them.
 pub(crate) fn judge_scalar(count: usize, bytes: &[u8]) -> Judged
     requires some { 0 < length bytes.now }
     requires short { length bytes.now ≤ 3 }
@@ -81,7 +81,7 @@ fn scalars_due(count: usize) -> Due
     Due::Fields(0, 0, Last::Scalars(count))
 }
 
-/// Passes the scalars at the front of the bytes, where scalars are due next: what is due behind them, and how many bytes
+/// Passes the scalars at the front of the bytes, where scalars are due next: what is due after them, and how many bytes
 /// they have. A run has up to 1,024 of them, so they are not looked at as fields one by one.
 pub(crate) fn pass_scalars(due: Due, bytes: &[u8]) -> (Due, usize)
     requires { IsSoundDue due }

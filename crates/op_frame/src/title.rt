@@ -32,7 +32,7 @@ fn judge_high(high: u8) -> Judged
     if high > 1 { Judged::Bad } else { Judged::Front }
 }
 
-/// Behind whole characters less text is due.
+/// After whole characters less text is due.
 pub(crate) fn judge_text(len: usize, bytes: &[u8]) -> Judged
     requires some { 0 < length bytes.now }
     requires short { length bytes.now ≤ len }

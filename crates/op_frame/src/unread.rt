@@ -70,7 +70,7 @@ impl Unread {
         self.start += len;
     }
 
-    /// Takes the source's next bytes behind these, at most so many, and answers how many came.
+    /// Takes the source's next bytes after these, at most so many, and returns how many came.
     pub(crate) fn fill<S: Source>(&mut self, most: usize, source: &mut S) -> Result<usize, Failed>
         requires room { length self.old.bytes < BUFFER }
         requires some { 0 < most }

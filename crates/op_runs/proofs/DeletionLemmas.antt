@@ -3,10 +3,10 @@ use Rattle.std.proofs.Common.{◌≡◌, ℕ, zero, suc, ◌+◌, ◌-◌, ◌<�
 use Rattle.std.proofs.Common.{◌∙◌, arith, inl, inr}
 use Rattle.std.proofs.Math.Seq.{take-append_seam}
 use Rattle.fugue_ids.specs.Identifiers.{Identifier}
-use Rattle.fugue_ids.specs.Runs.{id_behind, next_id}
+use Rattle.fugue_ids.specs.Runs.{id_after, next_id}
 use Rattle.fugue_ids.specs.declared.op.Op.{Op}
 use Rattle.fugue_ids.specs.declared.op.Op.TheVariants.{Delete}
-use Rattle.fugue_ids.proofs.RunLemmas.{none_behind, one_behind}
+use Rattle.fugue_ids.proofs.RunLemmas.{none_after, one_after}
 use Rattle.op_runs.specs.Deletions.{deletes_by, deletes_down, deletes_up, id_before, target_by}
 use Rattle.op_runs.specs.Growing.{HasMoreDeletes}
 use Rattle.op_runs.specs.Parts.{GoesOnBy}
@@ -18,11 +18,11 @@ none_before id = let e : id.counter - 0 ≡ id.counter = omega arith in λ i. re
 pub one_before : (id : Identifier) (n : ℕ) → id_before (id_before id 1) n ≡ id_before id (suc n)
 one_before id n = let e : id.counter - 1 - n ≡ id.counter - suc n = omega arith in λ i. record { replica = id.replica; counter = e i }
 
-up-append : (t : Identifier) (n m : ℕ) → deletes_up t (n + m) ≡ deletes_up t n ++ deletes_up (id_behind t n) m
-up-append t zero m = let e : 0 + m ≡ m = omega arith in λ i. deletes_up (sym (none_behind t) i) (e i)
+up-append : (t : Identifier) (n m : ℕ) → deletes_up t (n + m) ≡ deletes_up t n ++ deletes_up (id_after t n) m
+up-append t zero m = let e : 0 + m ≡ m = omega arith in λ i. deletes_up (sym (none_after t) i) (e i)
 up-append t (suc n) m =
     let e : suc n + m ≡ suc (n + m) = omega arith in
-    ap (deletes_up t) e ∙ ap (λ z. Delete t ∷ z) (up-append (next_id t) n m ∙ ap (λ u. deletes_up (next_id t) n ++ deletes_up u m) (one_behind t n))
+    ap (deletes_up t) e ∙ ap (λ z. Delete t ∷ z) (up-append (next_id t) n m ∙ ap (λ u. deletes_up (next_id t) n ++ deletes_up u m) (one_after t n))
 
 down-append : (t : Identifier) (n m : ℕ) → deletes_down t (n + m) ≡ deletes_down t n ++ deletes_down (id_before t n) m
 down-append t zero m = let e : 0 + m ≡ m = omega arith in λ i. deletes_down (sym (none_before t) i) (e i)
@@ -88,10 +88,10 @@ longer_is d target most false some fits (way, is) =
           ∙ ap (λ n. deletes_by d.down d.target d.count ++ deletes_by false target n) all;
     }
 
--- Deletes that came behind others, and those that came behind them
-pub deletes_behind : (old : List Op) (target : Identifier) (n m : ℕ)
-    → (old ++ deletes_by false target n) ++ deletes_by false (id_behind target n) m ≡ old ++ deletes_by false target (n + m)
-deletes_behind old target n m = append_assoc old (deletes_up target n) (deletes_up (id_behind target n) m) ∙ ap (λ z. old ++ z) (sym (up-append target n m))
+-- Deletes that came after others, and those that came after them
+pub deletes_after : (old : List Op) (target : Identifier) (n m : ℕ)
+    → (old ++ deletes_by false target n) ++ deletes_by false (id_after target n) m ≡ old ++ deletes_by false target (n + m)
+deletes_after old target n m = append_assoc old (deletes_up target n) (deletes_up (id_after target n) m) ∙ ap (λ z. old ++ z) (sym (up-append target n m))
 
 -- so many are taken back
 pub deletes_back : (old : List Op) (target : Identifier) (n : ℕ) → take (length (old ++ deletes_by false target n) - n) (old ++ deletes_by false target n) ≡ old

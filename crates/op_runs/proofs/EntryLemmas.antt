@@ -8,11 +8,11 @@ use Rattle.std.proofs.lemmas.List.Elements.{All-cons, All-get_or, All-head, All-
 use Rattle.std.proofs.lemmas.Option.{slice_get-get_or}
 use Rattle.fugue_ids.specs.Identifiers.{Identifier}
 use Rattle.fugue_ids.specs.Ops.{target_of}
-use Rattle.fugue_ids.specs.Runs.{run_from, start_behind, text_by}
+use Rattle.fugue_ids.specs.Runs.{run_from, start_after, text_by}
 use Rattle.fugue_ids.specs.declared.op.Op.{Op}
 use Rattle.fugue_ids.specs.declared.op.Op.TheVariants.{Delete}
 use Rattle.fugue_ids.specs.declared.run.RunStart.{RunStart}
-use Rattle.fugue_ids.proofs.RunLemmas.{length-typed, none_behind}
+use Rattle.fugue_ids.proofs.RunLemmas.{length-typed, none_after}
 use Rattle.op_runs.specs.Deletions.{CountersFit, deletes_by, target_by}
 use Rattle.op_runs.specs.Entries.{Alone, AreMaximal, Entry, IsSoundEntry, IsPartedIn, Neighbours, Run, entry_ops}
 use Rattle.op_runs.specs.Parts.{AreApart, AreParts, ContinuesPart, IsOther, IsSoundPart, ops_of, other_ops, part_len, part_ops}
@@ -60,7 +60,7 @@ deletes_alone : (letters : List ℕ) (others : List Op) (p : Part) (j : ℕ) (t 
     → slice_get (part_ops letters others p) j ≡ Some (Delete t) → (d : Deletes) × (p ≡ Deleted d) × (target_by d.down d.target j ≡ t)
 deletes_alone letters others (Typed r) j t s inside other e =
     let c : ℕ = get_or letters (r.at + j) 0 in
-    absurd (text_not_delete (start_behind r.start j) c t (letter_at letters r j c s.1 inside (get_or_default letters (r.at + j) 0 c (omega (arith, s.1, inside))) ∙ e))
+    absurd (text_not_delete (start_after r.start j) c t (letter_at letters r j c s.1 inside (get_or_default letters (r.at + j) 0 c (omega (arith, s.1, inside))) ∙ e))
 deletes_alone letters others (Deleted d) j t s inside other e = (d, refl, same_target (target_by d.down d.target j) t (delete_at d.down d.target d.count j inside ∙ e))
 deletes_alone letters others (Other k) j t s inside other e =
     let op : Op = get_or others k (Delete t) in
@@ -86,12 +86,12 @@ slice_get-seam : (xs : List Op) (x : Op) → slice_get (xs ++ x ∷ []) (length 
 slice_get-seam [] x = refl
 slice_get-seam (y ∷ ys) x = slice_get-seam ys x
 
-pub start_same : (s : RunStart) → start_behind s 0 ≡ s
-start_same s = λ i. record { id = none_behind s.id i; section = s.section; left = s.left; right = s.right }
+pub start_same : (s : RunStart) → start_after s 0 ≡ s
+start_same s = λ i. record { id = none_after s.id i; section = s.section; left = s.left; right = s.right }
 
 target_same : (down : Bool) (t : Identifier) → target_by down t 0 ≡ t
 target_same true t = none_before t
-target_same false t = none_behind t
+target_same false t = none_after t
 
 -- a target has one neighbour on each side
 one_way : (a b : Bool) (t : Identifier) → target_by a t 1 ≡ target_by b t 1 → a ≡ b
@@ -123,24 +123,24 @@ module _ (letters : List ℕ) (others : List Op) (p q : Part) (sp : IsSoundPart 
     xs_new : slice_get xs (part_len p) ≡ slice_get (part_ops letters others q) 0
     xs_new = (λ i. slice_get (is i) (sym n_is i)) ∙ slice_get-seam (part_ops letters others p) op ∙ sym (ap (λ z. slice_get z 0) first)
 
-  run_at : (s : RunStart) (u : List ℕ) (j : ℕ) → j < length u → slice_get (run_from s u) j ≡ Some (text_by (start_behind s j) (get_or u j 0))
-  run_at s u j h = typed_at s u j ∙ ap (option_map (text_by (start_behind s j))) (slice_get-get_or u j 0 h)
+  run_at : (s : RunStart) (u : List ℕ) (j : ℕ) → j < length u → slice_get (run_from s u) j ≡ Some (text_by (start_after s j) (get_or u j 0))
+  run_at s u j h = typed_at s u j ∙ ap (option_map (text_by (start_after s j))) (slice_get-get_or u j 0 h)
 
   no_run : (s : RunStart) (u : List ℕ) → run_from s u ≡ part_ops letters others p ++ op ∷ [] → ⊥
   no_run s u is =
       let len : length u ≡ part_len p + 1 = sym (length-typed s.id s.section s.left s.right u) ∙ xs_len (run_from s u) is in
-      part_never letters others p 0 (start_behind s 0) sp some_p other
+      part_never letters others p 0 (start_after s 0) sp some_p other
       (λ r e begins. ends r e (sym (start_same s) ∙ begins ∙ start_same r.start) len) (get_or u 0 0)
       (sym (xs_old (run_from s u) is 0 some_p) ∙ run_at s u 0 (omega (arith, len)))
     where
-      begun : (r t : TypedPart) → start_behind r.start r.count ≡ start_behind t.start 0 → t.start ≡ start_behind r.start r.count
+      begun : (r t : TypedPart) → start_after r.start r.count ≡ start_after t.start 0 → t.start ≡ start_after r.start r.count
       begun r t e = sym (e ∙ start_same t.start)
 
       ends : (r : TypedPart) → p ≡ Typed r → s ≡ r.start → length u ≡ part_len p + 1 → ⊥
       ends r e begins len =
           let count : part_len p ≡ r.count = ap part_len e in
-          let next : start_behind s (part_len p) ≡ start_behind r.start r.count = λ i. start_behind (begins i) (count i) in
-          part_never letters others q 0 (start_behind r.start r.count) sq some_q other
+          let next : start_after s (part_len p) ≡ start_after r.start r.count = λ i. start_after (begins i) (count i) in
+          part_never letters others q 0 (start_after r.start r.count) sq some_q other
           (λ t k starts. apart (subst (λ a. ContinuesPart a q) (sym e) (subst (ContinuesPart (Typed r)) (sym k) (begun r t starts)))) (get_or u (part_len p) 0)
           (sym (xs_new (run_from s u) is) ∙ run_at s u (part_len p) (omega (arith, len)) ∙ ap (λ z. Some (text_by z (get_or u (part_len p) 0))) next)
 

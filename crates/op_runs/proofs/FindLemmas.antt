@@ -9,12 +9,12 @@ use Rattle.std.proofs.lemmas.Option.{slice_get-get_or}
 use Rattle.std.proofs.lemmas.List.Elements.{All-cons, All-head, All-nil, All-tail}
 use Rattle.fugue_ids.specs.Identifiers.{Identifier}
 use Rattle.fugue_ids.specs.Ops.{target_of}
-use Rattle.fugue_ids.specs.Runs.{in_a_row, next_id, run_from, start_behind, text_by, text_in}
+use Rattle.fugue_ids.specs.Runs.{in_a_row, next_id, run_from, start_after, text_by, text_in}
 use Rattle.fugue_ids.specs.declared.op.Op.{Op}
 use Rattle.fugue_ids.specs.declared.op.Op.TheVariants.{Delete, Text}
 use Rattle.fugue_ids.specs.declared.run.RunStart.{RunStart}
-use Rattle.fugue_ids.proofs.ListLemmas.{all_before, all_behind, slice_get-append, slice_get-behind}
-use Rattle.fugue_ids.proofs.RunLemmas.{left_one, none_behind, one_behind}
+use Rattle.fugue_ids.proofs.ListLemmas.{all_before, all_after, slice_get-append, slice_get-behind}
+use Rattle.fugue_ids.proofs.RunLemmas.{left_one, none_after, one_after}
 use Rattle.op_runs.specs.Deletions.{deletes_by, id_before, target_by}
 use Rattle.op_runs.specs.Finding.{IsFloorPart, IsPartSpot, all_len}
 use Rattle.op_runs.specs.Growing.{IsLastPart}
@@ -89,7 +89,7 @@ spot_floor ps firsts k position e f l =
 pub floor_inside : (ps : List Part) (firsts : List ℕ) (k position : ℕ) → firsts ≡ firsts_of 0 ps → IsFloorPart firsts position k → k < length ps
 floor_inside ps firsts k position e f = omega (arith, f.inside, ap length e, firsts_len 0 ps)
 
--- a position inside is behind the first of some part
+-- a position inside is after the first of some part
 pub none_floor : (ps : List Part) (firsts : List ℕ) (position : ℕ) → firsts ≡ firsts_of 0 ps → ((j : ℕ) → j < length firsts → position < get_or firsts j 0) → all_len ps ≤ position
 none_floor [] firsts position e h = omega arith
 none_floor (p ∷ ps) firsts position e h =
@@ -121,7 +121,7 @@ spot_get letters others ps position k offset s sound =
     let P = IsSoundPart (length letters) (length others) in
     let all = subst (All P) s.whole sound in
     let len : length (ops_of letters others s.before) ≡ all_len s.before = ops_len letters others s.before (all_before P s.before (s.part ∷ s.after) all) in
-    let here = All-head P s.part s.after (all_behind P s.before (s.part ∷ s.after) all) in
+    let here = All-head P s.part s.after (all_after P s.before (s.part ∷ s.after) all) in
     let at : position ≡ length (ops_of letters others s.before) + offset = omega (arith, s.behind, len) in
     (λ i. slice_get (spot_parts letters others ps position k offset s i) (at i))
     ∙ slice_get-behind (ops_of letters others s.before) (part_ops letters others s.part ++ ops_of letters others s.after) offset
@@ -139,23 +139,23 @@ pub spot_inside : (ps : List Part) (position k offset : ℕ) → IsPartSpot ps p
 spot_inside ps position k offset s = omega (arith, s.index, ap length s.whole, length-append s.before (s.part ∷ s.after))
 
 -- a Text of a run
-pub typed_at : (start : RunStart) (text : List ℕ) (j : ℕ) → slice_get (run_from start text) j ≡ option_map (text_by (start_behind start j)) (slice_get text j)
+pub typed_at : (start : RunStart) (text : List ℕ) (j : ℕ) → slice_get (run_from start text) j ≡ option_map (text_by (start_after start j)) (slice_get text j)
 typed_at s [] zero = refl
 typed_at s [] (suc j) = refl
-typed_at s (c ∷ text) zero = λ i. Some (Text (sym (none_behind s.id) i) s.section s.left s.right c)
+typed_at s (c ∷ text) zero = λ i. Some (Text (sym (none_after s.id) i) s.section s.left s.right c)
 typed_at s (c ∷ text) (suc j) =
     typed_at (record { id = next_id s.id; section = s.section; left = Some s.id; right = s.right }) text j
-    ∙ (λ i. option_map (λ ch. Text (one_behind s.id j i) s.section (left_one s.id j i) s.right ch) (slice_get text j))
+    ∙ (λ i. option_map (λ ch. Text (one_after s.id j i) s.section (left_one s.id j i) s.right ch) (slice_get text j))
 
 pub letter_at : (letters : List ℕ) (r : TypedPart) (offset ch : ℕ) → r.at + r.count ≤ length letters → offset < r.count → ch ≡ get_or letters (r.at + offset) ch
-    → Some (text_by (start_behind r.start offset) ch) ≡ slice_get (run_from r.start (take r.count (drop r.at letters))) offset
+    → Some (text_by (start_after r.start offset) ch) ≡ slice_get (run_from r.start (take r.count (drop r.at letters))) offset
 letter_at letters r offset ch h g e =
     let text : List ℕ = take r.count (drop r.at letters) in
     let len : length text ≡ r.count = length-take-le r.count (drop r.at letters) (omega (arith, h, length-drop r.at letters)) in
     let inside : offset < length text = omega (arith, len, g) in
     let has : slice_get text offset ≡ Some ch =
     slice_get-get_or text offset ch inside ∙ ap Some (get_or-take r.count (drop r.at letters) offset ch g ∙ get_or-drop r.at letters offset ch ∙ sym e) in
-    sym (typed_at r.start text offset ∙ ap (option_map (text_by (start_behind r.start offset))) has)
+    sym (typed_at r.start text offset ∙ ap (option_map (text_by (start_after r.start offset))) has)
 
 -- a Delete of neighbours
 pub delete_at : (down : Bool) (t : Identifier) (n j : ℕ) → j < n → Some (Delete (target_by down t j)) ≡ slice_get (deletes_by down t n) j
@@ -163,8 +163,8 @@ delete_at true t zero j h = absurd (omega (arith, h))
 delete_at true t (suc n) zero h = λ i. Some (Delete (none_before t i))
 delete_at true t (suc n) (suc j) h = (λ i. Some (Delete (sym (one_before t j) i))) ∙ delete_at true (id_before t 1) n j (omega (arith, h))
 delete_at false t zero j h = absurd (omega (arith, h))
-delete_at false t (suc n) zero h = λ i. Some (Delete (none_behind t i))
-delete_at false t (suc n) (suc j) h = (λ i. Some (Delete (sym (one_behind t j) i))) ∙ delete_at false (next_id t) n j (omega (arith, h))
+delete_at false t (suc n) zero h = λ i. Some (Delete (none_after t i))
+delete_at false t (suc n) (suc j) h = (λ i. Some (Delete (sym (one_after t j) i))) ∙ delete_at false (next_id t) n j (omega (arith, h))
 
 -- one of the others
 pub other_at : (others : List Op) (k j : ℕ) (op : Op) → k < length others → j < 1 → op ≡ get_or others k op → Some op ≡ slice_get (other_ops (slice_get others k)) j
@@ -178,7 +178,7 @@ pub last_read : (letters : List ℕ) (others : List Op) (ps : List Part) (last :
     → slice_get (ops_of letters others ps) (length (ops_of letters others ps) - 1) ≡ slice_get (part_ops letters others last) (part_len last - 1)
 last_read letters others ps last is sound =
     let P = IsSoundPart (length letters) (length others) in
-    let at : P last = All-head P last [] (all_behind P is.front (last ∷ []) (subst (All P) is.whole sound)) in
+    let at : P last = All-head P last [] (all_after P is.front (last ∷ []) (subst (All P) is.whole sound)) in
     let front : List Op = ops_of letters others is.front in
     let here : List Op = part_ops letters others last in
     let long : length here ≡ part_len last = part_has letters others last at in
@@ -211,7 +211,7 @@ pub last_other : (letters : List ℕ) (others : List Op) (ps : List Part) (last 
 last_other letters others ps last op is sound e other =
     by_part last (has_some (length letters) (length others) last
     (All-head (IsSoundPart (length letters) (length others)) last []
-    (all_behind (IsSoundPart (length letters) (length others)) is.front (last ∷ []) (subst (All (IsSoundPart (length letters) (length others))) is.whole sound))))
+    (all_after (IsSoundPart (length letters) (length others)) is.front (last ∷ []) (subst (All (IsSoundPart (length letters) (length others))) is.whole sound))))
     (e ∙ last_read letters others ps last is sound)
   where
     by_part : (p : Part) → 0 < part_len p → Some op ≡ slice_get (part_ops letters others p) (part_len p - 1) → (k : ℕ) × (p ≡ Other k)

@@ -9,10 +9,10 @@ use Rattle.std.proofs.Math.Seq.{set-append_seam}
 use Rattle.fugue_ids.specs.Runs.{run_from}
 use Rattle.op_runs.specs.declared.part.TheConstants.{MOST_LISTED}
 use Rattle.fugue_ids.specs.declared.op.Op.{Op}
-use Rattle.fugue_ids.proofs.ListLemmas.{all_before, all_behind, slice_get-append}
+use Rattle.fugue_ids.proofs.ListLemmas.{all_before, all_after, slice_get-append}
 use Rattle.fugue_ids.proofs.RunLemmas.{length-typed}
 use Rattle.op_runs.specs.Growing.{IsAppendedPart, IsLastPart, IsReplacedPart}
-use Rattle.op_runs.specs.Parts.{AreApart, AreLaid, AreParts, ContinuesPart, IsInside, IsOther, IsSoundPart, IsWholePart, PartStandsBehind, firsts_of, letters_in, ops_of, other_ops}
+use Rattle.op_runs.specs.Parts.{AreApart, AreLaid, AreParts, ContinuesPart, IsInside, IsOther, IsSoundPart, IsWholePart, PartStandsAfter, firsts_of, letters_in, ops_of, other_ops}
 use Rattle.op_runs.specs.Parts.{others_in, part_len, part_ops}
 use Rattle.op_runs.specs.declared.part.Part.{Part}
 use Rattle.op_runs.specs.declared.part.Part.TheVariants.{Deleted, Other, Typed}
@@ -27,7 +27,7 @@ laid_within : (l o : ℕ) (ps : List Part) (L O : ℕ) → AreLaid l o ps L O �
 laid_within l o [] L O a = (omega (arith, a.0), omega (arith, a.1))
 laid_within l o (p ∷ ps) L O a = let r = laid_within (l + letters_in p) (o + others_in p) ps L O a.1 in (omega (arith, r.0), omega (arith, r.1))
 
-one_inside : (l o L O : ℕ) (p : Part) → PartStandsBehind l o p → l + letters_in p ≤ L → o + others_in p ≤ O → IsInside L O p
+one_inside : (l o L O : ℕ) (p : Part) → PartStandsAfter l o p → l + letters_in p ≤ L → o + others_in p ≤ O → IsInside L O p
 one_inside l o L O (Typed r) s a b = omega (arith, s, a)
 one_inside l o L O (Deleted d) s a b = tt
 one_inside l o L O (Other k) s a b = omega (arith, s, b)
@@ -43,9 +43,9 @@ laid_sound l o (p ∷ ps) L O w a =
 pub sound_of : (l : List ℕ) (o : List Op) (ps : List Part) (fs : List ℕ) (n : ℕ) → AreParts l o ps fs n → All (IsSoundPart (length l) (length o)) ps
 sound_of l o ps fs n a = laid_sound 0 0 ps (length l) (length o) a.whole a.laid
 
-pub laid-push : (l o : ℕ) (ps : List Part) (L O : ℕ) (p : Part) → AreLaid l o ps L O → PartStandsBehind L O p → AreLaid l o (ps ++ p ∷ []) (L + letters_in p) (O + others_in p)
+pub laid-push : (l o : ℕ) (ps : List Part) (L O : ℕ) (p : Part) → AreLaid l o ps L O → PartStandsAfter L O p → AreLaid l o (ps ++ p ∷ []) (L + letters_in p) (O + others_in p)
 laid-push l o [] L O p a s =
-    (subst (λ k. PartStandsBehind k o p) (sym a.0) (subst (λ k. PartStandsBehind L k p) (sym a.1) s), (ap (λ k. k + letters_in p) a.0, ap (λ k. k + others_in p) a.1))
+    (subst (λ k. PartStandsAfter k o p) (sym a.0) (subst (λ k. PartStandsAfter L k p) (sym a.1) s), (ap (λ k. k + letters_in p) a.0, ap (λ k. k + others_in p) a.1))
 laid-push l o (q ∷ qs) L O p a s = (a.0, laid-push (l + letters_in q) (o + others_in q) qs L O p a.1 s)
 
 -- where the last part stands
@@ -53,7 +53,7 @@ pub record IsLaidLast (l o : ℕ) (front : List Part) (p : Part) (L O : ℕ) : T
   pub letters : ℕ
   pub others : ℕ
   pub laid : AreLaid l o front letters others
-  pub behind : PartStandsBehind letters others p
+  pub behind : PartStandsAfter letters others p
   pub letters_end : letters + letters_in p ≡ L
   pub others_end : others + others_in p ≡ O
 
@@ -130,7 +130,7 @@ one_more letters others ps p = flat_map-append (part_ops letters others) ps (p �
 pub last_short : (l : List ℕ) (o : List Op) (ps : List Part) (fs : List ℕ) (n : ℕ) (last : Part) → AreParts l o ps fs n → IsLastPart ps last → part_len last ≤ n
 last_short l o ps fs n last a is =
     let s = subst (All (IsSoundPart (length l) (length o))) is.whole (sound_of l o ps fs n a) in
-    let at = All-head (IsSoundPart (length l) (length o)) last [] (all_behind (IsSoundPart (length l) (length o)) is.front (last ∷ []) s) in
+    let at = All-head (IsSoundPart (length l) (length o)) last [] (all_after (IsSoundPart (length l) (length o)) is.front (last ∷ []) s) in
     let whole : length (ops_of l o ps) ≡ length (ops_of l o is.front) + length (part_ops l o last) =
     ap (λ z. length (ops_of l o z)) is.whole ∙ ap length (one_more l o is.front last) ∙ length-append (ops_of l o is.front) (part_ops l o last) in
     omega (arith, a.counted, whole, part_has l o last at)
@@ -168,14 +168,14 @@ pub firsts_last : (n : ℕ) (front : List Part) (x y : Part) → firsts_of n (fr
 firsts_last n [] x y = refl
 firsts_last n (q ∷ qs) x y = ap (λ z. n ∷ z) (firsts_last (n + part_len q) qs x y)
 
--- Operations behind the others
+-- Operations after the others
 
 pub record IsPushed (l : List ℕ) (o : List Op) (ps : List Part) (fs : List ℕ) (n : ℕ) (old added : List Op) : Type 0 where
   pub are : AreParts l o ps fs n
   pub ops : ops_of l o ps ≡ old ++ added
 
 -- a part of their own
-appended : (l more : List ℕ) (o new : List Op) (ps : List Part) (fs : List ℕ) (n : ℕ) (p : Part) → AreParts l o ps fs n → IsWholePart p → PartStandsBehind (length l) (length o) p
+appended : (l more : List ℕ) (o new : List Op) (ps : List Part) (fs : List ℕ) (n : ℕ) (p : Part) → AreParts l o ps fs n → IsWholePart p → PartStandsAfter (length l) (length o) p
     → length more ≡ letters_in p → length new ≡ others_in p → All IsOther new → n + part_len p ≤ MOST_LISTED → ((last : Part) → IsLastPart ps last → ContinuesPart last p → ⊥)
     → IsPushed (l ++ more) (o ++ new) (ps ++ p ∷ []) (fs ++ n ∷ []) (n + part_len p) (ops_of l o ps) (part_ops (l ++ more) (o ++ new) p)
 appended l more o new ps fs n p a w stands ll oo others room apart =
@@ -204,7 +204,7 @@ appended l more o new ps fs n p a w stands ll oo others room apart =
 -- a longer part begins as the other does
 pub record BeginsAs (l more : List ℕ) (o : List Op) (last p : Part) (added : List Op) : Type 0 where
   pub whole : IsWholePart p
-  pub stands : (a b : ℕ) → PartStandsBehind a b last → PartStandsBehind a b p
+  pub stands : (a b : ℕ) → PartStandsAfter a b last → PartStandsAfter a b p
   pub goes : (before : Part) → ContinuesPart before p → ContinuesPart before last
   pub letters : letters_in p ≡ letters_in last + length more
   pub others : others_in p ≡ others_in last
@@ -242,7 +242,7 @@ replaced l more o front fs n last p added a b room =
 -- the same of the parts that a call left
 pub added_part : (l l' more : List ℕ) (o o' new : List Op) (ps ps' : List Part) (fs fs' : List ℕ) (n : ℕ) (p : Part) → l' ≡ l ++ more → o' ≡ o ++ new → AreParts l o ps fs n
     → IsAppendedPart ps ps' fs fs' n p → IsWholePart p
-    → PartStandsBehind (length l) (length o) p → length more ≡ letters_in p → length new ≡ others_in p → All IsOther new → n + part_len p ≤ MOST_LISTED
+    → PartStandsAfter (length l) (length o) p → length more ≡ letters_in p → length new ≡ others_in p → All IsOther new → n + part_len p ≤ MOST_LISTED
     → IsPushed l' o' ps' fs' (n + part_len p) (ops_of l o ps) (part_ops l' o' p)
 added_part l l' more o o' new ps ps' fs fs' n p el eo a is w stands ll oo others room =
     let r = appended l more o new ps fs n p a w stands ll oo others room is.apart in

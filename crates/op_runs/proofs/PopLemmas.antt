@@ -5,14 +5,14 @@ use Rattle.std.specs.Prelude.{All, Option, Some, slice_get}
 use Rattle.std.proofs.lemmas.List.{drop_all, drop-take, length-take-le, take-append-drop, take-take, take_all}
 use Rattle.std.proofs.lemmas.List.Elements.{All-append, All-cons, All-head, All-nil, All-tail, All-take}
 use Rattle.std.proofs.Math.Seq.{drop-cons, take-append_seam}
-use Rattle.fugue_ids.specs.Runs.{run_from, start_behind}
+use Rattle.fugue_ids.specs.Runs.{run_from, start_after}
 use Rattle.fugue_ids.specs.declared.op.Op.{Op}
 use Rattle.fugue_ids.specs.declared.op.Op.TheVariants.{Delete}
-use Rattle.fugue_ids.proofs.ListLemmas.{all_before, all_behind}
+use Rattle.fugue_ids.proofs.ListLemmas.{all_before, all_after}
 use Rattle.fugue_ids.proofs.RunLemmas.{length-typed, run_parted}
 use Rattle.op_runs.specs.Deletions.{CountersFit, deletes_by, target_by}
 use Rattle.op_runs.specs.Growing.{IsLastPart, TakesOffLast, letters_of_part, part_front}
-use Rattle.op_runs.specs.Parts.{AreLaid, AreParts, ContinuesPart, IsOther, IsSoundPart, IsWholePart, PartStandsBehind, firsts_of, letters_in, ops_of, other_ops, others_in}
+use Rattle.op_runs.specs.Parts.{AreLaid, AreParts, ContinuesPart, IsOther, IsSoundPart, IsWholePart, PartStandsAfter, firsts_of, letters_in, ops_of, other_ops, others_in}
 use Rattle.op_runs.specs.Parts.{part_len, part_ops}
 use Rattle.op_runs.specs.declared.part.Deletes.{Deletes}
 use Rattle.op_runs.specs.declared.part.Part.{Part}
@@ -27,7 +27,7 @@ pub record IsPopped (l : List ℕ) (o : List Op) (ps : List Part) (fs : List ℕ
   pub are : AreParts l o ps fs (n - count)
   pub ops : ops_of l o ps ≡ take (length old - count) old
 
--- a front of the operations, where so many stand behind it
+-- a front of the operations, where so many stand after it
 front_taken : (front rest : List Op) (n : ℕ) → length rest ≡ n → take (length (front ++ rest) - n) (front ++ rest) ≡ front
 front_taken front rest n e =
     let len : length (front ++ rest) - n ≡ length front = omega (arith, e, length-append front rest) in
@@ -44,10 +44,10 @@ module _ (l : List ℕ) (o : List Op) (front : List Part) (last : Part) (fs : Li
   whole_front = all_before IsWholePart front (last ∷ []) a.whole
 
   pub last_whole : IsWholePart last
-  last_whole = All-head IsWholePart last [] (all_behind IsWholePart front (last ∷ []) a.whole)
+  last_whole = All-head IsWholePart last [] (all_after IsWholePart front (last ∷ []) a.whole)
 
   last_sound : P last
-  last_sound = All-head P last [] (all_behind P front (last ∷ []) (sound_of l o (front ++ last ∷ []) fs n a))
+  last_sound = All-head P last [] (all_after P front (last ∷ []) (sound_of l o (front ++ last ∷ []) fs n a))
 
   last_len : length (part_ops l o last) ≡ part_len last
   last_len = part_has l o last last_sound
@@ -126,7 +126,7 @@ module _ (l : List ℕ) (o : List Op) (front : List Part) (last : Part) (fs : Li
 
 pub record IsShortened (l : List ℕ) (o : List Op) (m : ℕ) (last p : Part) (count : ℕ) : Type 0 where
   pub whole : IsWholePart p
-  pub stands : (a b : ℕ) → PartStandsBehind a b last → PartStandsBehind a b p
+  pub stands : (a b : ℕ) → PartStandsAfter a b last → PartStandsAfter a b p
   pub goes : (before : Part) → ContinuesPart before p → ContinuesPart before last
   pub letters : m + letters_in last ≡ length l + letters_in p
   pub others : others_in p ≡ others_in last
@@ -152,9 +152,9 @@ run_shortened l o r count w ends some less =
       goes = λ before z. goes_same before z;
       letters = omega (arith, m, ends, less);
       others = refl;
-      rest = run_from (start_behind s k) (drop k text);
-      ops = run_parted s (start_behind s k) text k (omega (arith, len)) (λ z. refl) ∙ ap (λ z. run_from s z ++ run_from (start_behind s k) (drop k text)) (sym front);
-      rest_len = length-typed (start_behind s k).id s.section (start_behind s k).left s.right (drop k text) ∙ omega (arith, length-drop k text, len, less);
+      rest = run_from (start_after s k) (drop k text);
+      ops = run_parted s (start_after s k) text k (omega (arith, len)) (λ z. refl) ∙ ap (λ z. run_from s z ++ run_from (start_after s k) (drop k text)) (sym front);
+      rest_len = length-typed (start_after s k).id s.section (start_after s k).left s.right (drop k text) ∙ omega (arith, length-drop k text, len, less);
       len = omega (arith, less);
     }
   where
@@ -277,7 +277,7 @@ module _ (l : List ℕ) (o : List Op) (ps : List Part) (fs : List ℕ) (n : ℕ)
   at_end = laid-last 0 0 is.front last (length l) (length o) b.laid
 
   sound : IsSoundPart (length l) (length o) last
-  sound = All-head (IsSoundPart (length l) (length o)) last [] (all_behind (IsSoundPart (length l) (length o)) is.front (last ∷ []) (sound_of l o (is.front ++ last ∷ []) fs n b))
+  sound = All-head (IsSoundPart (length l) (length o)) last [] (all_after (IsSoundPart (length l) (length o)) is.front (last ∷ []) (sound_of l o (is.front ++ last ∷ []) fs n b))
 
   pub others_there : others_in last ≤ length o
   others_there = omega (arith, at_end.others_end)
@@ -372,7 +372,7 @@ other_gone l o o' ps ps' fs fs' n k found a is e f g h =
     record {
       op = op;
       is = h none some;
-      kind = All-head IsOther op [] (all_behind IsOther o' (op ∷ []) (subst (All IsOther) whole a.are_others));
+      kind = All-head IsOther op [] (all_after IsOther o' (op ∷ []) (subst (All IsOther) whole a.are_others));
       are = subst (λ (z : List Part). AreParts l o' z fs' (n - 1)) (sym front) r.0;
       ops = ap (ops_of l o) is.whole ∙ r.1 ∙ ap (λ (z : List Part). ops_of l o' z ++ op ∷ []) (sym front);
     }

@@ -1,4 +1,4 @@
--- What comes of a list of operations where a run, a Delete or another operation comes behind it.
+-- What comes of a list of operations where a run, a Delete or another operation comes after it.
 use Rattle.std.proofs.Common.{◌≡◌, ℕ, ◌+◌, ◌-◌, ◌<◌, ◌≤◌, ◌^◌, false, List, [], ◌∷◌, ◌++◌, length, take, drop, refl, ap, sym, subst, ◌∙◌, arith, inl, inr, append-nil}
 use Rattle.std.proofs.Common.{length-append, length-drop}
 use Rattle.std.specs.Prelude.{slice_get}
@@ -6,11 +6,11 @@ use Rattle.std.proofs.lemmas.List.{drop-append-le, length-take-le, take_all}
 use Rattle.std.proofs.lemmas.List.Elements.{All-cons, All-head, All-nil}
 use Rattle.std.proofs.Math.Seq.{drop-append_seam}
 use Rattle.fugue_ids.specs.Identifiers.{Identifier}
-use Rattle.fugue_ids.specs.Runs.{run_from, start_behind}
+use Rattle.fugue_ids.specs.Runs.{run_from, start_after}
 use Rattle.op_runs.specs.declared.part.TheConstants.{MOST_LISTED}
 use Rattle.fugue_ids.specs.declared.op.Op.{Op}
 use Rattle.fugue_ids.specs.declared.run.RunStart.{RunStart}
-use Rattle.fugue_ids.proofs.ListLemmas.{all_behind, slice_get-seam}
+use Rattle.fugue_ids.proofs.ListLemmas.{all_after, slice_get-seam}
 use Rattle.fugue_ids.proofs.RunLemmas.{length-typed, typed-append}
 use Rattle.op_runs.specs.Deletions.{deletes_by}
 use Rattle.op_runs.specs.Growing.{AddsDeletes, AddsRun, IsAppendedPart, HasMoreDeletes, IsReplacedPart, forwards, with_more}
@@ -30,17 +30,17 @@ typed_last : (l : List ℕ) (o : List Op) (ps : List Part) (fs : List ℕ) (n : 
 typed_last l o ps fs n front r a e =
     let b = subst (λ (z : List Part). AreParts l o z fs n) e a in
     let at = laid-last 0 0 front (Typed r) (length l) (length o) b.laid in
-    (All-head IsWholePart (Typed r) [] (all_behind IsWholePart front (Typed r ∷ []) b.whole), ap (λ k. k + r.count) at.behind ∙ at.letters_end)
+    (All-head IsWholePart (Typed r) [] (all_after IsWholePart front (Typed r ∷ []) b.whole), ap (λ k. k + r.count) at.behind ∙ at.letters_end)
 
 -- all letters from a place on, with those that came
-letters_behind : (l text : List ℕ) (at count : ℕ) → at + count ≡ length l → take (count + length text) (drop at (l ++ text)) ≡ take count (drop at l) ++ text
-letters_behind l text at count e =
+letters_after : (l text : List ℕ) (at count : ℕ) → at + count ≡ length l → take (count + length text) (drop at (l ++ text)) ≡ take count (drop at l) ++ text
+letters_after l text at count e =
     let all : length (drop at (l ++ text)) ≤ count + length text = omega (arith, e, length-drop at (l ++ text), length-append l text) in
     let some : length (drop at l) ≤ count = omega (arith, e, length-drop at l) in
     let inside : at ≤ length l = omega (arith, e) in
     take_all (count + length text) (drop at (l ++ text)) all ∙ drop-append-le at l text inside ∙ ap (λ z. z ++ text) (sym (take_all count (drop at l) some))
 
-longer_run : (l text : List ℕ) (o : List Op) (r : TypedPart) (start : RunStart) → IsWholePart (Typed r) → r.at + r.count ≡ length l → start ≡ start_behind r.start r.count
+longer_run : (l text : List ℕ) (o : List Op) (r : TypedPart) (start : RunStart) → IsWholePart (Typed r) → r.at + r.count ≡ length l → start ≡ start_after r.start r.count
     → start.id.counter + length text ≤ 2 ^ 32
     → BeginsAs l text o (Typed r) (Typed (with_more r (length text))) (run_from start text)
 longer_run l text o r start w ends is fits =
@@ -54,9 +54,9 @@ longer_run l text o r start w ends is fits =
       goes = λ before k. goes_same before k;
       letters = refl;
       others = refl;
-      ops = ap (run_from s) (letters_behind l text r.at r.count ends)
+      ops = ap (run_from s) (letters_after l text r.at r.count ends)
           ∙ typed-append s.id s.section s.left s.right front text
-          ∙ (λ i. run_from s front ++ run_from (start_behind s (len i)) text)
+          ∙ (λ i. run_from s front ++ run_from (start_after s (len i)) text)
           ∙ (λ i. run_from s front ++ run_from (sym is i) text);
       long = ap (λ k. r.count + k) (sym (length-typed start.id start.section start.left start.right text));
     }

@@ -9,34 +9,34 @@ use Rattle.std.proofs.lemmas.Option.{slice_get-get_or}
 use Rattle.std.proofs.Math.Seq.{drop-append-add}
 use Rattle.fugue_ids.specs.Identifiers.{Identifier}
 use Rattle.fugue_ids.specs.Ops.{op_eq}
-use Rattle.fugue_ids.specs.Runs.{id_behind, in_a_row, left_behind, next_id, run_from, start_behind, text_by, text_in}
+use Rattle.fugue_ids.specs.Runs.{id_after, in_a_row, left_after, next_id, run_from, start_after, text_by, text_in}
 use Rattle.fugue_ids.specs.declared.op.Op.{Op}
 use Rattle.fugue_ids.specs.declared.op.Op.TheVariants.{Delete, Text}
 use Rattle.fugue_ids.specs.declared.run.RunStart.{RunStart}
-use Rattle.fugue_ids.proofs.ListLemmas.{all_before, all_behind, slice_get-append}
+use Rattle.fugue_ids.proofs.ListLemmas.{all_before, all_after, slice_get-append}
 use Rattle.fugue_ids.proofs.OpLemmas.{op_eq-refl, op_eq-true}
-use Rattle.fugue_ids.proofs.RunLemmas.{left_one, none_behind, one_behind}
+use Rattle.fugue_ids.proofs.RunLemmas.{left_one, none_after, one_after}
 use Rattle.op_runs.specs.Finding.{IsPartSpot}
 use Rattle.op_runs.specs.Parts.{AreApart, ContinuesPart, IsOther, IsSoundPart, StandsApart, ops_of, other_ops, part_len, part_ops}
-use Rattle.op_runs.specs.Repeats.{same_front, same_letters}
+use Rattle.op_runs.specs.CommonPrefix.{common_prefix, common_letters}
 use Rattle.op_runs.specs.declared.part.Part.{Part}
 use Rattle.op_runs.specs.declared.part.Part.TheVariants.{Deleted, Other, Typed}
 use Rattle.op_runs.specs.declared.part.TypedPart.{TypedPart}
 use Rattle.op_runs.proofs.FindLemmas.{delete_at, letter_at, ops_len, spot_parts}
 use Rattle.op_runs.proofs.PartLemmas.{has_some, part_has}
-use Rattle.op_runs.proofs.SliceLemmas.{typed_behind}
+use Rattle.op_runs.proofs.SliceLemmas.{typed_after}
 
 -- Scalars
 
-same_c : (c d : ℕ) (a b : List ℕ) → c ≡ d → same_letters (c ∷ a) (d ∷ b) ≡ suc (same_letters a b)
-same_c c d a b e = ap (λ z. if z then suc (same_letters a b) else 0) (eq-eqb c d e)
+same_c : (c d : ℕ) (a b : List ℕ) → c ≡ d → common_letters (c ∷ a) (d ∷ b) ≡ suc (common_letters a b)
+same_c c d a b e = ap (λ z. if z then suc (common_letters a b) else 0) (eq-eqb c d e)
 
 -- the two are the same so far and differ there, or one ends
 pub same_is : (k : ℕ) (a b : List ℕ) (d : ℕ) → k ≤ length a → k ≤ length b → take k a ≡ take k b → (k < length a → k < length b → get_or a k d ≢ get_or b k d)
-    → same_letters a b ≡ k
+    → common_letters a b ≡ k
 same_is zero [] b d la lb e n = refl
 same_is zero (x ∷ a) [] d la lb e n = refl
-same_is zero (x ∷ a) (y ∷ b) d la lb e n = ap (λ z. if z then suc (same_letters a b) else 0) (ne_eqb x y (n (omega arith) (omega arith)))
+same_is zero (x ∷ a) (y ∷ b) d la lb e n = ap (λ z. if z then suc (common_letters a b) else 0) (ne_eqb x y (n (omega arith) (omega arith)))
 same_is (suc k) [] b d la lb e n = absurd (omega (arith, la))
 same_is (suc k) (x ∷ a) [] d la lb e n = absurd (omega (arith, lb))
 same_is (suc k) (x ∷ a) (y ∷ b) d la lb e n =
@@ -57,25 +57,25 @@ same_text id s l r c d = elim (cases_Bool (nat_eq c d)) [
 
 -- Texts of one start, before what does not go on with the first ones
 row_front : (id s : Identifier) (l r : Option Identifier) (a b : List ℕ) (rest : List Op)
-    → ((more : List ℕ) → same_front rest (in_a_row (id_behind id (length a)) s (left_behind l id (length a)) r more) ≡ 0)
-    → same_front (in_a_row id s l r a ++ rest) (in_a_row id s l r b) ≡ same_letters a b
-row_front id s l r [] b rest n = ap (λ z. same_front rest (in_a_row z s l r b)) (sym (none_behind id)) ∙ n b
+    → ((more : List ℕ) → common_prefix rest (in_a_row (id_after id (length a)) s (left_after l id (length a)) r more) ≡ 0)
+    → common_prefix (in_a_row id s l r a ++ rest) (in_a_row id s l r b) ≡ common_letters a b
+row_front id s l r [] b rest n = ap (λ z. common_prefix rest (in_a_row z s l r b)) (sym (none_after id)) ∙ n b
 row_front id s l r (c ∷ a) [] rest n = refl
 row_front id s l r (c ∷ a) (d ∷ b) rest n =
     let later = row_front (next_id id) s (Some id) r a b rest
-    (λ more. (λ i. same_front rest (in_a_row (one_behind id (length a) i) s (left_one id (length a) i) r more)) ∙ n more) in
+    (λ more. (λ i. common_prefix rest (in_a_row (one_after id (length a) i) s (left_one id (length a) i) r more)) ∙ n more) in
     (λ i. if same_text id s l r c d i then suc (later i) else 0)
 
-pub run_front : (start : RunStart) (a b : List ℕ) (rest : List Op) → ((more : List ℕ) → same_front rest (run_from (start_behind start (length a)) more) ≡ 0)
-    → same_front (run_from start a ++ rest) (run_from start b) ≡ same_letters a b
+pub run_front : (start : RunStart) (a b : List ℕ) (rest : List Op) → ((more : List ℕ) → common_prefix rest (run_from (start_after start (length a)) more) ≡ 0)
+    → common_prefix (run_from start a ++ rest) (run_from start b) ≡ common_letters a b
 run_front start a b rest n = row_front start.id start.section start.left start.right a b rest n
 
 -- where the first operation is no Text of the run
-pub zero_by_first : (xs : List Op) (s : RunStart) (more : List ℕ) → ((ch : ℕ) → slice_get xs 0 ≡ Some (text_by s ch) → ⊥) → same_front xs (run_from s more) ≡ 0
+pub zero_by_first : (xs : List Op) (s : RunStart) (more : List ℕ) → ((ch : ℕ) → slice_get xs 0 ≡ Some (text_by s ch) → ⊥) → common_prefix xs (run_from s more) ≡ 0
 zero_by_first [] s more n = refl
 zero_by_first (op ∷ ops) s [] n = refl
 zero_by_first (op ∷ ops) s (ch ∷ more) n =
-    ap (λ z. if z then suc (same_front ops (in_a_row (next_id s.id) s.section (Some s.id) s.right more)) else 0)
+    ap (λ z. if z then suc (common_prefix ops (in_a_row (next_id s.id) s.section (Some s.id) s.right more)) else 0)
     (false_from_ne_true (op_eq op (text_by s ch)) (λ t. n ch (ap Some (op_eq-true op (text_by s ch) t))))
 
 pub same_start : (s q : RunStart) (c d : ℕ) → Some (text_by s c) ≡ Some (text_by q d) → s ≡ q
@@ -89,10 +89,10 @@ same_start s q c d e =
 -- an operation of a part is a Text that says so only where the part is a run in which one does
 pub part_never : (letters : List ℕ) (others : List Op) (p : Part) (offset : ℕ) (s : RunStart) → IsSoundPart (length letters) (length others) p → offset < part_len p
     → All IsOther others
-    → ((r : TypedPart) → p ≡ Typed r → s ≡ start_behind r.start offset → ⊥) → (ch : ℕ) → slice_get (part_ops letters others p) offset ≡ Some (text_by s ch) → ⊥
+    → ((r : TypedPart) → p ≡ Typed r → s ≡ start_after r.start offset → ⊥) → (ch : ℕ) → slice_get (part_ops letters others p) offset ≡ Some (text_by s ch) → ⊥
 part_never letters others (Typed r) offset s sound inside other n ch e =
     let c : ℕ = get_or letters (r.at + offset) 0 in
-    n r refl (same_start s (start_behind r.start offset) ch c
+    n r refl (same_start s (start_after r.start offset) ch c
     (sym e ∙ sym (letter_at letters r offset c sound.1 inside (get_or_default letters (r.at + offset) 0 c (omega (arith, sound.1, inside))))))
 part_never letters others (Deleted d) offset s sound inside other n ch e = never (delete_at d.down d.target d.count offset inside ∙ e)
   where
@@ -119,30 +119,30 @@ part_never letters others (Other k) offset s sound inside other n ch e =
     never : {x : RunStart × ℕ} → Some x ≡ None → ⊥
     never z = cc z
 
--- what stands behind a part does not go on with it
+-- what stands after a part does not go on with it
 pub next_zero : (letters : List ℕ) (others : List Op) (r : TypedPart) (qs : List Part) (more : List ℕ) → All (IsSoundPart (length letters) (length others)) qs → All IsOther others
     → StandsApart (Typed r) qs
-    → same_front (ops_of letters others qs) (run_from (start_behind r.start r.count) more) ≡ 0
+    → common_prefix (ops_of letters others qs) (run_from (start_after r.start r.count) more) ≡ 0
 next_zero letters others r [] more sound other apart = refl
 next_zero letters others r (q ∷ qs) more sound other apart =
     let P = IsSoundPart (length letters) (length others) in
     let here = All-head P q qs sound in
     let some : 0 < part_len q = has_some (length letters) (length others) q here in
-    zero_by_first (ops_of letters others (q ∷ qs)) (start_behind r.start r.count) more
-    (λ ch e. part_never letters others q 0 (start_behind r.start r.count) here some other
+    zero_by_first (ops_of letters others (q ∷ qs)) (start_after r.start r.count) more
+    (λ ch e. part_never letters others q 0 (start_after r.start r.count) here some other
     (λ t is begins. apart (subst (ContinuesPart (Typed r)) (sym is) (begun t begins))) ch
     (sym (slice_get-append (part_ops letters others q) (ops_of letters others qs) 0 (omega (arith, some, part_has letters others q here))) ∙ e))
   where
-    begun : (t : TypedPart) → start_behind r.start r.count ≡ start_behind t.start 0 → t.start ≡ start_behind r.start r.count
-    begun t e = sym (e ∙ (λ i. record { id = none_behind t.start.id i; section = t.start.section; left = t.start.left; right = t.start.right }))
+    begun : (t : TypedPart) → start_after r.start r.count ≡ start_after t.start 0 → t.start ≡ start_after r.start r.count
+    begun t e = sym (e ∙ (λ i. record { id = none_after t.start.id i; section = t.start.section; left = t.start.left; right = t.start.right }))
 
 -- At a spot
 
-apart_behind : (before : List Part) (p : Part) (after : List Part) → AreApart (before ++ p ∷ after) → StandsApart p after
-apart_behind [] p after a = a.0
-apart_behind (q ∷ before) p after a = apart_behind before p after a.1
+apart_after : (before : List Part) (p : Part) (after : List Part) → AreApart (before ++ p ∷ after) → StandsApart p after
+apart_after [] p after a = a.0
+apart_after (q ∷ before) p after a = apart_after before p after a.1
 
-start_further : (s : RunStart) (j k n : ℕ) → 0 < k → j + k ≡ n → start_behind (start_behind s j) k ≡ start_behind s n
+start_further : (s : RunStart) (j k n : ℕ) → 0 < k → j + k ≡ n → start_after (start_after s j) k ≡ start_after s n
 start_further s j zero n some e = absurd (omega (arith, some))
 start_further s j (suc k) n some e =
     let same : s.id.counter + j + suc k ≡ s.id.counter + (j + suc k) = omega arith in
@@ -154,8 +154,8 @@ start_further s j (suc k) n some e =
       left = Some (record { replica = s.id.replica; counter = before i });
       right = s.right;
     })
-    ∙ (λ i. record { id = id_behind s.id (e i); section = s.section; left = left_behind s.left s.id (suc (j + k)); right = s.right })
-    ∙ (λ i. record { id = id_behind s.id n; section = s.section; left = left_behind s.left s.id (step i); right = s.right })
+    ∙ (λ i. record { id = id_after s.id (e i); section = s.section; left = left_after s.left s.id (suc (j + k)); right = s.right })
+    ∙ (λ i. record { id = id_after s.id n; section = s.section; left = left_after s.left s.id (step i); right = s.right })
 
 module _ (letters : List ℕ) (others : List Op) (ps : List Part) (position k offset : ℕ) (s : IsPartSpot ps position k offset)
     (all : All (IsSoundPart (length letters) (length others)) ps) (apart : AreApart ps) (other : All IsOther others)
@@ -167,10 +167,10 @@ module _ (letters : List ℕ) (others : List Op) (ps : List Part) (position k of
   split = subst (All Q) s.whole all
 
   here : Q s.part
-  here = All-head Q s.part s.after (all_behind Q s.before (s.part ∷ s.after) split)
+  here = All-head Q s.part s.after (all_after Q s.before (s.part ∷ s.after) split)
 
   behind : All Q s.after
-  behind = All-tail Q s.part s.after (all_behind Q s.before (s.part ∷ s.after) split)
+  behind = All-tail Q s.part s.after (all_after Q s.before (s.part ∷ s.after) split)
 
   -- the operations from the position on
   from_spot : drop position (ops_of letters others ps) ≡ drop offset (part_ops letters others s.part) ++ ops_of letters others s.after
@@ -182,7 +182,7 @@ module _ (letters : List ℕ) (others : List Op) (ps : List Part) (position k of
       ∙ drop-append-le offset (part_ops letters others s.part) (ops_of letters others s.after) (omega (arith, s.inside, part_has letters others s.part here))
 
   -- another operation stands there
-  pub no_repeats : ((r : TypedPart) → s.part ≡ Typed r → start ≡ start_behind r.start offset → ⊥) → same_front (drop position (ops_of letters others ps)) (run_from start text) ≡ 0
+  pub no_repeats : ((r : TypedPart) → s.part ≡ Typed r → start ≡ start_after r.start offset → ⊥) → common_prefix (drop position (ops_of letters others ps)) (run_from start text) ≡ 0
   no_repeats n =
       zero_by_first (drop position (ops_of letters others ps)) start text (λ ch e. part_never letters others s.part offset start here s.inside other n ch
       (sym (first_of_drop (part_ops letters others s.part) offset) ∙ sym (slice_get-append (drop offset (part_ops letters others s.part)) (ops_of letters others s.after) 0
@@ -194,8 +194,8 @@ module _ (letters : List ℕ) (others : List Op) (ps : List Part) (position k of
       first_of_drop (x ∷ xs) (suc j) = first_of_drop xs j
 
   -- Texts that begin so stand there
-  pub repeats_run : (r : TypedPart) → s.part ≡ Typed r → start ≡ start_behind r.start offset
-      → same_front (drop position (ops_of letters others ps)) (run_from start text) ≡ same_letters (take (r.at + r.count - (r.at + offset)) (drop (r.at + offset) letters)) text
+  pub repeats_run : (r : TypedPart) → s.part ≡ Typed r → start ≡ start_after r.start offset
+      → common_prefix (drop position (ops_of letters others ps)) (run_from start text) ≡ common_letters (take (r.at + r.count - (r.at + offset)) (drop (r.at + offset) letters)) text
   repeats_run r is e =
       let sound : Q (Typed r) = subst Q is here in
       let inside : offset < r.count = subst (λ (p : Part). offset < part_len p) is s.inside in
@@ -203,10 +203,10 @@ module _ (letters : List ℕ) (others : List Op) (ps : List Part) (position k of
       let len : length left ≡ r.count - offset =
       length-take-le (r.at + r.count - (r.at + offset)) (drop (r.at + offset) letters) (omega (arith, length-drop (r.at + offset) letters, sound.1)) ∙ omega arith in
       let there : drop offset (part_ops letters others s.part) ≡ run_from start left =
-      ap (λ (p : Part). drop offset (part_ops letters others p)) is ∙ sym (typed_behind letters r offset sound.1 inside) ∙ ap (λ z. run_from z left) (sym e) in
-      let apart_here : StandsApart (Typed r) s.after = subst (λ (p : Part). StandsApart p s.after) is (apart_behind s.before s.part s.after (subst AreApart s.whole apart)) in
-      let end : start_behind start (length left) ≡ start_behind r.start r.count =
-      (λ i. start_behind (e i) (len i)) ∙ start_further r.start offset (r.count - offset) r.count (omega (arith, inside)) (omega (arith, inside)) in
-      ap (λ z. same_front z (run_from start text)) (from_spot ∙ ap (λ z. z ++ ops_of letters others s.after) there)
+      ap (λ (p : Part). drop offset (part_ops letters others p)) is ∙ sym (typed_after letters r offset sound.1 inside) ∙ ap (λ z. run_from z left) (sym e) in
+      let apart_here : StandsApart (Typed r) s.after = subst (λ (p : Part). StandsApart p s.after) is (apart_after s.before s.part s.after (subst AreApart s.whole apart)) in
+      let end : start_after start (length left) ≡ start_after r.start r.count =
+      (λ i. start_after (e i) (len i)) ∙ start_further r.start offset (r.count - offset) r.count (omega (arith, inside)) (omega (arith, inside)) in
+      ap (λ z. common_prefix z (run_from start text)) (from_spot ∙ ap (λ z. z ++ ops_of letters others s.after) there)
       ∙ run_front start left text (ops_of letters others s.after)
-      (λ more. ap (λ z. same_front (ops_of letters others s.after) (run_from z more)) end ∙ next_zero letters others r s.after more behind other apart_here)
+      (λ more. ap (λ z. common_prefix (ops_of letters others s.after) (run_from z more)) end ∙ next_zero letters others r s.after more behind other apart_here)

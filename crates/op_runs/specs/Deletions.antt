@@ -1,7 +1,7 @@
 -- Deletes of neighbours.
 use Rattle.std.specs.Prelude.{ℕ, zero, suc, ◌+◌, ◌-◌, ◌≤◌, ◌^◌, Bool, true, false, List, [], ◌∷◌}
 use Rattle.fugue_ids.specs.Identifiers.{Identifier}
-use Rattle.fugue_ids.specs.Runs.{id_behind, next_id}
+use Rattle.fugue_ids.specs.Runs.{id_after, next_id}
 use Rattle.fugue_ids.specs.declared.op.Op.{Op}
 use Rattle.fugue_ids.specs.declared.op.Op.TheVariants.{Delete}
 
@@ -9,7 +9,7 @@ use Rattle.fugue_ids.specs.declared.op.Op.TheVariants.{Delete}
 abbrev pub id_before : Identifier → ℕ → Identifier
 id_before id n = record { replica = id.replica; counter = id.counter - n }
 
--- forwards: each target is the identifier behind that of the one before
+-- forwards: each target is the identifier after that of the one before
 abbrev pub deletes_up : Identifier → ℕ → List Op
 deletes_up target zero = []
 deletes_up target (suc n) = Delete target ∷ deletes_up (next_id target) n
@@ -24,10 +24,10 @@ abbrev pub deletes_by : (down : Bool) → Identifier → ℕ → List Op
 deletes_by true target n = deletes_down target n
 deletes_by false target n = deletes_up target n
 
--- the target so many behind the first
+-- the target so many after the first
 abbrev pub target_by : (down : Bool) → Identifier → ℕ → Identifier
 target_by true target n = id_before target n
-target_by false target n = id_behind target n
+target_by false target n = id_after target n
 
 -- the counters of so many targets are there
 abbrev pub CountersFit : (down : Bool) → Identifier → ℕ → Type 0

@@ -19,7 +19,7 @@ abbrev pub all_len : List Part → ℕ
 all_len [] = 0
 all_len (p ∷ ps) = part_len p + all_len ps
 
--- the last one that is not behind the position
+-- the last one that is not after the position
 pub record IsFloorPart (firsts : List ℕ) (position k : ℕ) : Type 0 where
   pub inside : k < length firsts
   pub up_to : slice_index firsts k ≤ position

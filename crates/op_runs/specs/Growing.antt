@@ -1,7 +1,7 @@
--- What comes of the parts where operations come behind them, or go.
+-- What comes of the parts where operations come after them, or go.
 use Rattle.std.specs.Prelude.{◌≡◌, ℕ, ◌+◌, ◌⊎◌, ◌++◌, ◌∷◌, [], List, false, ◌-◌, ◌<◌, ◌≤◌, length, take}
 use Rattle.fugue_ids.specs.Identifiers.{Identifier}
-use Rattle.fugue_ids.specs.Runs.{start_behind}
+use Rattle.fugue_ids.specs.Runs.{start_after}
 use Rattle.op_runs.specs.Deletions.{CountersFit, deletes_by}
 use Rattle.op_runs.specs.Parts.{ContinuesPart, part_len}
 use Rattle.op_runs.specs.declared.part.Deletes.{Deletes}
@@ -14,7 +14,7 @@ pub record IsLastPart (parts : List Part) (last : Part) : Type 0 where
   pub front : List Part
   pub whole : parts ≡ front ++ last ∷ []
 
--- Deletes of neighbours with more behind them: some of those forwards from a target on, at most so many
+-- Deletes of neighbours with more after them: some of those forwards from a target on, at most so many
 pub record HasMoreDeletes (part : Deletes) (target : Identifier) (most : ℕ) (more : Deletes) : Type 0 where
   pub target_is : more.target ≡ part.target
   pub some : part.count < more.count
@@ -23,7 +23,7 @@ pub record HasMoreDeletes (part : Deletes) (target : Identifier) (most : ℕ) (m
   pub ops : deletes_by more.down more.target more.count ≡ deletes_by part.down part.target part.count
       ++ deletes_by false target (more.count - part.count)
 
--- a new part stands behind the others, and goes on with none
+-- a new part stands after the others, and goes on with none
 pub record IsAppendedPart (old new : List Part) (old_firsts new_firsts : List ℕ) (first : ℕ) (part : Part) : Type 0 where
   pub parts_are : new ≡ old ++ part ∷ []
   pub firsts_are : new_firsts ≡ old_firsts ++ first ∷ []
@@ -40,18 +40,18 @@ pub record IsReplacedPart (old new : List Part) (old_firsts new_firsts : List �
 abbrev pub with_more : TypedPart → ℕ → TypedPart
 with_more r n = record { start = r.start; at = r.at; count = r.count + n }
 
--- a run comes behind the parts
+-- a run comes after the parts
 abbrev pub AddsRun : (old new : List Part) (old_firsts new_firsts : List ℕ) (first : ℕ) → TypedPart → Type 0
 AddsRun old new old_firsts new_firsts first run =
     IsAppendedPart old new old_firsts new_firsts first (Typed run)
-    ⊎ ((last : TypedPart) × (run.start ≡ start_behind last.start last.count)
+    ⊎ ((last : TypedPart) × (run.start ≡ start_after last.start last.count)
     × IsReplacedPart old new old_firsts new_firsts (Typed last) (Typed (with_more last run.count)))
 
 -- Deletes of so many neighbours, forwards
 abbrev pub forwards : Identifier → ℕ → Deletes
 forwards target n = record { target = target; count = n; down = false }
 
--- Deletes of neighbours forwards from a target on, at most so many, come behind the parts: n of them
+-- Deletes of neighbours forwards from a target on, at most so many, come after the parts: n of them
 abbrev pub AddsDeletes : (old new : List Part) (old_firsts new_firsts : List ℕ) (first : ℕ) → Identifier → (most n : ℕ) → Type 0
 AddsDeletes old new old_firsts new_firsts first target most n =
     ((n ≡ most) × IsAppendedPart old new old_firsts new_firsts first (Deleted (forwards target most)))

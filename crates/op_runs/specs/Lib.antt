@@ -3,5 +3,5 @@ pub mod Parts
 pub mod Growing
 pub mod Finding
 pub mod Slices
-pub mod Repeats
+pub mod CommonPrefix
 pub mod Entries

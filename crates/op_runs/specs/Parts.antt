@@ -3,7 +3,7 @@ use Rattle.std.specs.Prelude.{◌≡◌, ℕ, ◌+◌, ◌<◌, ◌≤◌, ◌^�
 use Rattle.std.specs.Prelude.{drop, flat_map, slice_get}
 use Rattle.fugue_ids.specs.Identifiers.{Identifier}
 use Rattle.fugue_ids.specs.Ops.{target_of}
-use Rattle.fugue_ids.specs.Runs.{id_behind, run_from, start_behind, text_in}
+use Rattle.fugue_ids.specs.Runs.{id_after, run_from, start_after, text_in}
 use Rattle.op_runs.specs.declared.part.TheConstants.{MOST_LISTED}
 use Rattle.fugue_ids.specs.declared.op.Op.{Op}
 use Rattle.op_runs.specs.Deletions.{CountersFit, deletes_by}
@@ -60,21 +60,21 @@ others_in (Typed r) = 0
 others_in (Deleted d) = 0
 others_in (Other k) = 1
 
--- its letters, or its other operation, stand behind so many
-abbrev pub PartStandsBehind : (letters others : ℕ) → Part → Type 0
-PartStandsBehind letters others (Typed r) = r.at ≡ letters
-PartStandsBehind letters others (Deleted d) = Unit {0}
-PartStandsBehind letters others (Other k) = k ≡ others
+-- its letters, or its other operation, stand after so many
+abbrev pub PartStandsAfter : (letters others : ℕ) → Part → Type 0
+PartStandsAfter letters others (Typed r) = r.at ≡ letters
+PartStandsAfter letters others (Deleted d) = Unit {0}
+PartStandsAfter letters others (Other k) = k ≡ others
 
 -- the parts use letters and others in turn, from l and o on, and end where there are L and O
 abbrev pub AreLaid : (l o : ℕ) → List Part → (L O : ℕ) → Type 0
 AreLaid l o [] L O = (l ≡ L) × (o ≡ O)
-AreLaid l o (p ∷ ps) L O = PartStandsBehind l o p × AreLaid (l + letters_in p) (o + others_in p) ps L O
+AreLaid l o (p ∷ ps) L O = PartStandsAfter l o p × AreLaid (l + letters_in p) (o + others_in p) ps L O
 
 -- a target goes on with Deletes of neighbours in a direction; one Delete has none yet
 abbrev pub GoesOnBy : Deletes → Identifier → (down : Bool) → Type 0
-GoesOnBy d target true = ((d.count ≡ 1) ⊎ (d.down ≡ true)) × (d.target ≡ id_behind target d.count)
-GoesOnBy d target false = ((d.count ≡ 1) ⊎ (d.down ≡ false)) × (target ≡ id_behind d.target d.count)
+GoesOnBy d target true = ((d.count ≡ 1) ⊎ (d.down ≡ true)) × (d.target ≡ id_after target d.count)
+GoesOnBy d target false = ((d.count ≡ 1) ⊎ (d.down ≡ false)) × (target ≡ id_after d.target d.count)
 
 -- in one of the two
 abbrev pub IsNextTarget : Deletes → Identifier → Type 0
@@ -82,7 +82,7 @@ IsNextTarget d target = GoesOnBy d target false ⊎ GoesOnBy d target true
 
 -- the first operation of a part goes on with another part
 abbrev pub ContinuesPart : (part next : Part) → Type 0
-ContinuesPart (Typed r) (Typed q) = q.start ≡ start_behind r.start r.count
+ContinuesPart (Typed r) (Typed q) = q.start ≡ start_after r.start r.count
 ContinuesPart (Deleted d) (Deleted e) = IsNextTarget d e.target
 ContinuesPart _ _ = ⊥
 

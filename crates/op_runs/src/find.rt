@@ -1,3 +1,5 @@
+//! The operation at a position of a list, and a reference to it that copies nothing.
+
 ghost use Rattle.std.specs.Prelude.{◌≡◌, ◌<◌, ◌≤◌, ◌+◌, ◌-◌, ◌^◌, All, IfNone, IfOk, IfSome, ℕ, Some, length, option_map, slice_get, slice_index};
 ghost use Rattle.fugue_ids.specs.Ops.{id_of, op_eq};
 ghost use Rattle.op_runs.specs.Finding.{IsFloorPart, IsPartSpot, all_len, op_of};
@@ -73,7 +75,7 @@ pub(crate) struct Spot {
     pub offset: usize,
 }
 
-/// The last of the firsts that is not behind the position.
+/// The last of the firsts that is not after the position.
 fn floor_of(firsts: &[u32], position: u32) -> Option<usize>
     requires { (i j : ℕ) → i < j → j < length firsts.now → slice_index firsts.now i < slice_index firsts.now j }
     ensures some { IfSome result (λ k. IsFloorPart firsts.now position k) }

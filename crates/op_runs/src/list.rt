@@ -1,3 +1,5 @@
+//! The list of operations that keeps what was typed in a row, and Deletes in a row, as one part each.
+
 ghost use Rattle.std.specs.Prelude.{◌≡◌, ◌<◌, ◌≤◌, ◌+◌, ◌^◌, ◌++◌, ◌∷◌, [], All, IfErr, IfNone, IfOk, IfSome, IsSome, OnErr, Some, false, OnOk, drop, length, option_map, slice_get, take, ◌-◌};
 ghost use Rattle.fugue_ids.specs.Runs.{run_from};
 ghost use Rattle.fugue_ids.specs.declared.op.Op.{Op as AnyOp};
@@ -7,7 +9,7 @@ ghost use Rattle.op_runs.specs.Entries.{IsPartedIn};
 ghost use Rattle.op_runs.specs.Finding.{op_of};
 ghost use Rattle.op_runs.specs.Growing.{AddsDeletes, AddsRun, IsLastPart};
 ghost use Rattle.op_runs.specs.Parts.{IsOther, IsWholePart, part_len};
-ghost use Rattle.op_runs.specs.Repeats.{same_front};
+ghost use Rattle.op_runs.specs.CommonPrefix.{common_prefix};
 ghost use Rattle.op_runs.specs.declared.part.Part.{Part};
 
 use crate::find::{OpRef, last_op, op_at};
@@ -20,7 +22,7 @@ use fugue_ids::{ElementId, NoMemory, Op, RunStart, read_text};
 use std::alloc::Global;
 use std::marker::Model;
 
-/// Want of memory for an operation, which is handed back.
+/// An allocation failure for an operation, which is handed back.
 #[derive(Debug, Drop)]
 pub struct NoMemoryFor {
     pub op: Op,
@@ -80,7 +82,7 @@ fn add_run(
     add_part(parts, firsts, first, Part::Typed(run))
 }
 
-/// Deletes of neighbours, at most so many, go on with the last part, or are one more. The answer is how many came.
+/// Deletes of neighbours, at most so many, go on with the last part, or are one more. Returns how many came.
 fn add_deletes(
     parts: &mut Vec<Part>,
     firsts: &mut Vec<u32>,
@@ -141,7 +143,7 @@ impl OpRuns {
         self.parts.as_slice().len()
     }
 
-    /// The operation behind so many others.
+    /// The operation after so many others.
     pub fn get(&self, position: usize) -> Option<OpRef<'_>>
         ensures { option_map op_of result ≡ slice_get self.now position }
     {
@@ -162,7 +164,7 @@ impl OpRuns {
         last_op(&self.parts, &self.letters, &self.others)
     }
 
-    /// Texts that were typed in a row, behind all others. After want of memory all is as before.
+    /// Texts that were typed in a row, after all others. After an allocation failure all is as before.
     pub fn push_run(&mut self, start: RunStart, text: &[char]) -> Result<(), NoMemory>
         requires some { 0 < length text.now }
         requires counters { start.id.counter + length text.now ≤ 2 ^ 32 }
@@ -189,7 +191,7 @@ impl OpRuns {
         }
     }
 
-    /// The first of so many Deletes, and those of the others that can stand in one part with it. The answer is how many.
+    /// The first of so many Deletes, and those of the others that can stand in one part with it. Returns how many.
     fn push_some_deletes(&mut self, first: ElementId, most: u32) -> Result<u32, NoMemory>
         requires some { 0 < most }
         requires counters { first.counter + most ≤ 2 ^ 32 }
@@ -204,8 +206,8 @@ impl OpRuns {
         Ok(count)
     }
 
-    /// The Deletes of so many neighbours, from this identifier on, behind all others. After want of memory all is as
-    /// before.
+    /// The Deletes of so many neighbours, from this identifier on, after all others. After an allocation failure all is
+    /// as before.
     pub fn push_deletes(&mut self, first: ElementId, count: u32) -> Result<(), NoMemory>
         requires counters { first.counter + count ≤ 2 ^ 32 }
         requires room { length self.old + count ≤ MOST_LISTED }
@@ -269,7 +271,7 @@ impl OpRuns {
         }
     }
 
-    /// One operation more, behind all others. After want of memory all is as before.
+    /// One operation more, after all others. After an allocation failure all is as before.
     pub fn push(&mut self, op: Op) -> Result<(), NoMemoryFor>
         requires room { length self.old < MOST_LISTED }
         ensures ok { OnOk result (self.new ≡ self.old ++ op ∷ []) }
@@ -305,9 +307,9 @@ impl OpRuns {
         )
     }
 
-    /// How many of the Texts of a run the list has, one behind the other, from a position on.
+    /// How many of the Texts of a run the list has, one after the other, from a position on.
     pub fn repeats(&self, position: usize, start: &RunStart, text: &[char]) -> usize
-        ensures { result ≡ same_front (drop position self.now) (run_from start.now text.now) }
+        ensures { result ≡ common_prefix (drop position self.now) (run_from start.now text.now) }
     {
         repeats_at(
             &self.parts,

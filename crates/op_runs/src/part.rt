@@ -1,5 +1,7 @@
+//! The parts of a list of operations: typed text, Deletes in a row, and single operations.
+
 ghost use Rattle.std.specs.Prelude.{◌≡◌, ◌↔◌, ◌<◌, ◌≤◌, ◌+◌, ◌^◌, ◌++◌, ◌∷◌, [], IfNone, IfSome, IsSome, IsTrue, List, OnErr, OnOk, length};
-ghost use Rattle.fugue_ids.specs.Runs.{id_behind};
+ghost use Rattle.fugue_ids.specs.Runs.{id_after};
 ghost use Rattle.op_runs.specs.Deletions.{CountersFit, target_by};
 ghost use Rattle.op_runs.specs.Growing.{IsLastPart, HasMoreDeletes, TakesOffLast, letters_of_part, part_front};
 ghost use Rattle.op_runs.specs.Parts.{GoesOnBy, IsNextTarget, IsWholePart, others_in, part_len};
@@ -20,7 +22,7 @@ pub(crate) struct TypedPart {
     pub count: u32,
 }
 
-/// Deletes of neighbours: each target is the identifier behind that of the one before it, or each is the identifier
+/// Deletes of neighbours: each target is the identifier after that of the one before it, or each is the identifier
 /// before that.
 #[derive(Clone, Copy, Debug, PartialEq, Eq)]
 pub struct Deletes {
@@ -32,7 +34,7 @@ pub struct Deletes {
 }
 
 impl Deletes {
-    /// The target so many behind the first.
+    /// The target so many after the first.
     pub fn nth(&self, offset: usize) -> ElementId
         requires counters { CountersFit self.now.down self.now.target self.now.count }
         requires inside { offset < self.now.count }
@@ -117,9 +119,9 @@ impl Part {
     }
 }
 
-/// Whether an identifier is the one so many behind another.
-fn is_behind(first: ElementId, count: u32, id: ElementId) -> bool
-    ensures is { IsTrue result ↔ (id ≡ id_behind first count) }
+/// Whether an identifier is the one so many after another.
+fn is_after(first: ElementId, count: u32, id: ElementId) -> bool
+    ensures is { IsTrue result ↔ (id ≡ id_after first count) }
     ensures fits { id.counter < 2 ^ 32 }
 {
     let counter = id.counter;
@@ -133,11 +135,11 @@ fn direction(part: &Deletes, target: ElementId) -> Option<bool>
     ensures fits { IsSome result → target.counter < 2 ^ 32 }
 {
     let alone = part.count == 1;
-    let forwards = is_behind(part.target, part.count, target);
+    let forwards = is_after(part.target, part.count, target);
     if forwards && (alone || !part.down) {
         return Some(false);
     }
-    if (alone || part.down) && is_behind(target, part.count, part.target) {
+    if (alone || part.down) && is_after(target, part.count, part.target) {
         return Some(true);
     }
     None
@@ -204,7 +206,7 @@ pub(crate) fn take_off(
     most
 }
 
-/// A part more, behind so many operations.
+/// A part more, after so many operations.
 pub(crate) fn add_part(
     parts: &mut Vec<Part>,
     firsts: &mut Vec<u32>,

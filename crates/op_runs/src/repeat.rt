@@ -1,15 +1,17 @@
+//! How many operations of a run a list has already, in a row from a position on.
+
 ghost use Rattle.std.specs.Prelude.{◌≡◌, All, drop, length};
 ghost use Rattle.fugue_ids.specs.Runs.{run_from};
 ghost use Rattle.op_runs.specs.Parts.{AreApart, IsOther, IsSoundPart, firsts_of, ops_of};
-ghost use Rattle.op_runs.specs.Repeats.{same_front, same_letters};
+ghost use Rattle.op_runs.specs.CommonPrefix.{common_prefix, common_letters};
 
 use crate::find::spot_of;
 use crate::part::Part;
 use fugue_ids::{Op, RunStart};
 
-/// How many scalars at the front of the two are the same.
+/// The length of the common prefix of two texts, in scalars.
 fn same_len(letters: &[char], text: &[char]) -> usize
-    ensures { result ≡ same_letters letters.now text.now }
+    ensures { result ≡ common_letters letters.now text.now }
 {
     let most = letters.len().min(text.len());
     for count in 0..most {
@@ -20,7 +22,7 @@ fn same_len(letters: &[char], text: &[char]) -> usize
     most
 }
 
-/// How many of the Texts of a run the list has, one behind the other, from a position on.
+/// How many of the Texts of a run the list has, one after the other, from a position on.
 pub(crate) fn repeats_at(
     parts: &[Part],
     firsts: &[u32],
@@ -36,7 +38,7 @@ pub(crate) fn repeats_at(
     requires others { All IsOther others.now }
     requires firsts { firsts.now ≡ firsts_of 0 parts.now }
     requires counted { count ≡ length (ops_of letters.now others.now parts.now) }
-    ensures { result ≡ same_front (drop position (ops_of letters.now others.now parts.now)) (run_from start.now text.now) }
+    ensures { result ≡ common_prefix (drop position (ops_of letters.now others.now parts.now)) (run_from start.now text.now) }
 {
     // The contract alone needs these.
     let _ = others;

@@ -1,3 +1,5 @@
+//! A slice of a list of operations, and the next row of Texts, Deletes or single operations in it.
+
 ghost use Rattle.std.specs.Prelude.{◌≡◌, ◌<◌, ◌++◌, ◌∷◌, [], All, IfNone, IfSome, drop, length};
 ghost use Rattle.op_runs.specs.Finding.{op_of};
 ghost use Rattle.op_runs.specs.Parts.{IsSoundPart, firsts_of, ops_of, part_len, part_ops};
@@ -8,12 +10,14 @@ use crate::part::{Deletes, Part};
 use fugue_ids::{Op, RunStart};
 use std::marker::Model;
 
-/// Operations that stand next to each other.
+/// Neighbouring operations of one kind, or a single operation.
 #[derive(Clone, Copy)]
 pub enum Stretch<'a> {
     /// Texts that were typed in a row: what the first says but for its scalar, and the scalars of all.
     Typed(RunStart, &'a [char]),
+    /// Deletes in a row, of neighbouring identifiers.
     Deleted(Deletes),
+    /// Any other operation.
     Single(&'a Op),
 }
 
@@ -25,7 +29,7 @@ pub struct OpSlice<'a> {
     others: &'a [Op],
     /// How many operations of the first part are left out.
     skip: usize,
-    /// Operations behind those of the parts. A slice has either parts or these.
+    /// Operations after those of the parts. A slice has either parts or these.
     plain: &'a [Op],
     count: usize,
 }
@@ -43,7 +47,7 @@ impl<'a> Model for OpSlice<'a> {
     ghost invariant = { λ s. AreSliced s.letters.now s.others.now s.parts.now s.skip s.plain.now s.count };
 }
 
-/// The operations of a part, but for the first ones.
+/// The operations of a part after the first `skip`.
 fn stretch_of<'a>(part: &Part, letters: &'a [char], others: &'a [Op], skip: usize) -> Stretch<'a>
     requires sound { IsSoundPart (length letters.now) (length others.now) part.now }
     requires inside { skip < part_len part.now }
@@ -92,7 +96,7 @@ pub(crate) fn slice_at<'a>(
 }
 
 impl<'a> OpSlice<'a> {
-    /// The operations of a slice.
+    /// The slice of these operations.
     pub fn of(ops: &'a [Op]) -> OpSlice<'a>
         ensures { result ≡ ops.now }
     {
@@ -106,7 +110,7 @@ impl<'a> OpSlice<'a> {
         }
     }
 
-    /// Those of some parts, but for the first ones of the first part.
+    /// The slice of the operations of these parts, without the first `skip`.
     pub(crate) fn of_parts(
         parts: &'a [Part],
         letters: &'a [char],
@@ -150,8 +154,7 @@ impl<'a> OpSlice<'a> {
         self.count
     }
 
-    /// Takes the first operations off: those of a part, as far as they are there. None comes where there are no more, and
-    /// there are none then either.
+    /// Takes off the operations of the first part, or the next single one. Returns None once the slice is empty.
     pub fn next_stretch(&mut self) -> Option<Stretch<'a>>
         ensures taken { IfSome result (λ stretch. self.old ≡ stretch_ops stretch ++ self.new) }
         ensures some { IfSome result (λ stretch. 0 < length (stretch_ops stretch)) }
@@ -174,7 +177,7 @@ impl<'a> OpSlice<'a> {
         Some(Stretch::Single(op))
     }
 
-    /// Takes the first operation off. None comes where there are no more, and there are none then either.
+    /// Takes off the first operation. Returns None once the slice is empty.
     pub fn next_op(&mut self) -> Option<OpRef<'a>>
         ensures taken { IfSome result (λ op. self.old ≡ op_of op ∷ self.new) }
         ensures none { IfNone result (self.old ≡ []) }

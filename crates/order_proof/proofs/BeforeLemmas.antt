@@ -28,7 +28,7 @@ not_due : (p : Place) (h : List Op) (r : Reason) → is_later r ≡ false → Du
 not_due p h (Later u v) e = absurd (true≢false e)
 not_due p h _ e = tt
 
--- a step by Prefix begins behind the front of x's own chain
+-- a step by Prefix begins after the front of x's own chain
 pub prefix_front : (h : List Op) (s : Step) → Lawful h → IsHeld h s.y → (t : IsPrefixStep h s) → lefts h s.x ≡ t.above ++ s.x ∷ []
 prefix_front h s w k t = lefts-prefix h s.y s.x t.above (t.next ∷ t.more) w k (t.suffix ∙ ap (λ l. t.above ++ l) t.from_x)
 

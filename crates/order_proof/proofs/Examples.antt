@@ -28,7 +28,7 @@ at replica counter = Some (id replica counter)
 abbrev letter : Identifier → Option Identifier → Option Identifier → ℕ → Op
 letter name left right ch = Text name (id 9 0) left right ch
 
--- B at the end of the text; A and D before B; X and Y behind A, X before B and Y before D; newest first
+-- B at the end of the text; A and D before B; X and Y after A, X before B and Y before D; newest first
 abbrev concurrent : List Op
 concurrent =
     letter (id 2 1) (at 1 1) (at 2 0) 89 ∷ letter (id 3 0) (at 1 1) (at 1 0) 88 ∷ letter (id 2 0) None (at 1 0) 68

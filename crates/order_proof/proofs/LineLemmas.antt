@@ -20,7 +20,7 @@ pub narrow_all : (ids : List Identifier) → All IsPossible ids → All IsNarrow
 narrow_all [] p = All-nil IsNarrow
 narrow_all (i ∷ ids) p = All-cons IsNarrow i ids (All-head IsPossible i ids p).1 (narrow_all ids (All-tail IsPossible i ids p))
 
--- a line, and what stands behind it
+-- a line, and what stands after it
 pub line_split : (word : List ℕ) (ids : List Identifier) (more : List ℕ) → word_with_ids word ids ++ more ≡ word ++ (ids_text ids ++ 10 ∷ more)
 line_split word ids more = append_assoc word (ids_text ids ++ 10 ∷ []) more ∙ ap (λ z. word ++ z) (append_assoc (ids_text ids) (10 ∷ []) more)
 
@@ -138,7 +138,7 @@ sibling_written s End n = refl
 sibling_written s (Later p q) n = refl
 sibling_written s Tie n = refl
 
--- the first lines of a step: its claim, and its first chain, with what stands behind them
+-- the first lines of a step: its claim, and its first chain, with what stands after them
 pub record IsStepText (s : Step) (text more : List ℕ) : Type 0 where
   pub down : List Identifier
   pub rest : List ℕ

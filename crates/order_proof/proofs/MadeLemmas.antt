@@ -22,7 +22,7 @@ unfoldable use Rattle.order_proof.specs.Making.{certificate}
 use Rattle.order_proof.proofs.BeforeLemmas.{prefix_of}
 use Rattle.order_proof.proofs.FoundLemmas.{Open, extended, first_step}
 
--- what a certificate has behind its first step
+-- what a certificate has after its first step
 abbrev pub below : List Op → Option (Identifier × Identifier) → Certificate
 below older o = elim o [ None ↦ [] | Some claim ↦ certificate older claim.0 claim.1 ]
 
@@ -81,7 +81,7 @@ spent ops n x y items all l rest =
     ∙ ap (λ k. items ++ certificate (reverse (take k ops)) x y) (sym z)
     ∙ rest
 
--- behind a common front
+-- after a common front
 count-common : (c xs ys : Chain) → (drop (common_count (c ++ xs) (c ++ ys)) (c ++ xs) ≡ drop (common_count xs ys) xs)
     × (drop (common_count (c ++ xs) (c ++ ys)) (c ++ ys) ≡ drop (common_count xs ys) ys)
 count-common [] xs ys = (refl, refl)
@@ -91,7 +91,7 @@ count-common (a ∷ c) xs ys =
     ap (λ b. if b then suc (common_count (c ++ xs) (c ++ ys)) else 0) (id_eq-refl a) in
     (ap (λ n. drop n (a ∷ (c ++ xs))) e ∙ k.0, ap (λ n. drop n (a ∷ (c ++ ys))) e ∙ k.1)
 
--- what two chains have behind their common front
+-- what two chains have after their common front
 abbrev Rests : (xs ys us vs : Chain) → Type 0
 Rests xs ys us vs = (drop (common_count xs ys) xs ≡ us) × (drop (common_count xs ys) ys ≡ vs)
 

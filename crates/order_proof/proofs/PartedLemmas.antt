@@ -73,7 +73,7 @@ parted-shorter xs ys u v a b t k = true≢false (sym (before-prefix true (λ _ _
 pub parted-longer : (xs ys u v : Chain) (a b : Identifier) → PartsAt xs ys u v a b → IsProperPrefix ys xs → ⊥
 parted-longer xs ys u v a b t k = true≢false (sym (before-longer false (λ _ _. false) xs ys k) ∙ before-parted false (λ _ _. false) xs ys u v a b t)
 
--- two common fronts behind which two chains go on differently are one
+-- two common fronts after which two chains go on differently are one
 split_once : (c e : Chain) (a b g h : Identifier) (m n k l : Chain) → a ≢ b → g ≢ h → c ++ a ∷ m ≡ e ++ g ∷ k → c ++ b ∷ n ≡ e ++ h ∷ l → (a ∷ m ≡ g ∷ k) × (b ∷ n ≡ h ∷ l)
 split_once [] [] a b g h m n k l d o p q = (p, q)
 split_once [] (z ∷ e) a b g h m n k l d o p q = absurd (d (heads a z m (e ++ g ∷ k) p ∙ sym (heads b z n (e ++ h ∷ l) q)))

@@ -168,7 +168,7 @@ split (op ∷ older) w one other =
           ]
     ]
 
--- so what is passed is what two chains have behind their common front
+-- so what is passed is what two chains have after their common front
 module _ (h : List Op) (w : Lawful h) (x y : Identifier) where
   parts : IsSplit h (Some x) (Some y) (passed_up h (Some x) (Some y))
   parts = split h w (Some x) (Some y)

@@ -1,4 +1,4 @@
--- Where a byte stands first in a text, and what stands before and behind it.
+-- Where a byte stands first in a text, and what stands before and after it.
 use Rattle.std.proofs.Common.{List, [], ap, append_assoc, arith, cond, drop, false, get_or, length, length-append, length-drop, nat_eq, nat_lt, refl, suc, sym, take, ℕ, ◌+◌, ◌++◌}
 use Rattle.std.proofs.Common.{◌-◌, ◌<◌, ◌≤◌, ◌∙◌, ◌∷◌, ◌≡◌, ◌≢◌, ◌↔◌}
 use Rattle.std.specs.Prelude.{All, IfSome, IsSomeAnd, MatchOption, IsNone, None, Option, Some, position, ◌==◌}
@@ -52,7 +52,7 @@ found_nowhere k text f =
     let past : nat_lt (length text) (length text) ≡ false = grind (arith, nat_tests) in
     ap (λ n. cond (nat_lt n (length text)) (Some n) None) (sym (counts k text) ∙ count_all k text f) ∙ ap (λ t. cond t (Some (length text)) None) past
 
--- the text before and behind it
+-- the text before and after it
 pub parts_found : (k i : ℕ) (text first rest : List ℕ) → HasNoByte k first → text ≡ first ++ k ∷ rest → position (λ b. b == k) text ≡ Some i
     → (take i text ≡ first) × (take (length text - (i + 1)) (drop (i + 1) text) ≡ rest)
 parts_found k i text first rest f e p =
@@ -70,7 +70,7 @@ split_there k i text p =
     ∙ ap (λ z. take i text ++ z) (drop_more text i 0 f.0)
     ∙ (λ j. take i text ++ is j ∷ sym (take_all (length text - (i + 1)) (drop (i + 1) text) (omega (arith, length-drop (i + 1) text))) j)
 
--- a word, and identifiers behind it
+-- a word, and identifiers after it
 pub word_found : (text word : List ℕ) (more : List Identifier) (i : ℕ) → HasNoByte 32 word → text ≡ word ++ ids_text more → position (λ b. b == 32) text ≡ Some i
     → (take i text ≡ word) × (take (length text - i) (drop i text) ≡ ids_text more)
 word_found text word [] i f e p =
@@ -158,10 +158,10 @@ pub strip_parts : (text piece : List ℕ) (r : Option (Bor (List ℕ))) → IsSt
 strip_parts text piece None m = tt
 strip_parts text piece (Some x) m = m
 
-pub same_front : (piece a b : List ℕ) → piece ++ a ≡ piece ++ b → a ≡ b
-same_front [] a b e = e
-same_front (c ∷ piece) a b e = let t : piece ++ a ≡ piece ++ b = cc in same_front piece a b t
+pub common_prefix : (piece a b : List ℕ) → piece ++ a ≡ piece ++ b → a ≡ b
+common_prefix [] a b e = e
+common_prefix (c ∷ piece) a b e = let t : piece ++ a ≡ piece ++ b = cc in common_prefix piece a b t
 
 pub strip_found : (text piece rest : List ℕ) (r : Option (Bor (List ℕ))) → IsStripped text piece r → text ≡ piece ++ rest → IsSomeAnd r (λ found. found.now ≡ rest)
 strip_found text piece rest None m e = m rest e
-strip_found text piece rest (Some x) m e = same_front piece x.now rest (sym m ∙ e)
+strip_found text piece rest (Some x) m e = common_prefix piece x.now rest (sym m ∙ e)

@@ -33,7 +33,7 @@ split_at k (c ∷ a) (d ∷ b) r s f g e =
     let m = split_at k a b r s f.1 g.1 t in
     ((λ i. h i ∷ m.0 i), m.1)
 
--- pieces, each with a mark behind it
+-- pieces, each with a mark after it
 abbrev marked : ℕ → List (List ℕ) → List ℕ
 marked k xs = flat_map (λ x. x ++ k ∷ []) xs
 
@@ -207,7 +207,7 @@ reason_by end ids = End
 reason_by tie ids = Tie
 reason_by w ids = Inner
 
--- the step that lines tell, and the lines behind it
+-- the step that lines tell, and the lines after it
 abbrev nothing : Step
 nothing = let none : Identifier = record { replica = 0; counter = 0 } in record { x = none; y = none; down_x = []; down_y = []; right_x = []; right_y = []; reason = Prefix }
 

@@ -39,7 +39,7 @@ no_push : (c : Chain) (m : Identifier) → [] ≡ c ++ m ∷ [] → ⊥
 no_push [] m e = cc
 no_push (a ∷ c) m e = cc
 
--- nothing in front and nothing behind
+-- nothing in front and nothing after
 no_members : (c d : Chain) → [] ≡ c ++ d → d ≡ []
 no_members [] d e = sym e
 no_members (a ∷ c) d e = cc

@@ -7,7 +7,7 @@ use Rattle.order_proof.specs.declared.step.Step.{Step}
 use Rattle.order_proof.specs.Certificates.{Certificate}
 use Rattle.order_proof.specs.Texts.{chain_lines, proof_line_text, proof_lines, proof_text, reason_line, step_lines, step_text}
 
--- the lines of a step, one behind the other
+-- the lines of a step, one after the other
 step_written : (s : Step) → step_text s ≡ flat_map proof_line_text (step_lines s)
 step_written s =
     ap (λ z. flat_map proof_line_text (chain_lines s s.reason) ++ z) (sym (append-nil (proof_line_text (reason_line s.reason))))

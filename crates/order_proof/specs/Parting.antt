@@ -67,7 +67,7 @@ pub record IsOneWay (ops : List Op) (below at : ℕ) (one other new_one new_othe
   pub other_is : new_other.passed.items ++ (passed_up (history_at ops at) new_one.next new_other.next).other ≡ other.passed.items
       ++ (passed_up (history_at ops below) one.next other.next).other
 
--- what two chains of left origins have behind their common front
+-- what two chains of left origins have after their common front
 pub record AreDowns (h : List Op) (x y : Identifier) (down_x down_y : Chain) : Type 0 where
   pub of_x : down_x ≡ drop (common_count (lefts h x) (lefts h y)) (lefts h x)
   pub of_y : down_y ≡ drop (common_count (lefts h x) (lefts h y)) (lefts h y)

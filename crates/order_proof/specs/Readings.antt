@@ -31,12 +31,12 @@ HasNoByte k (c ∷ cs) = (c ≢ k) × HasNoByte k cs
 abbrev pub sibling_lines : Step → List ProofLine
 sibling_lines s = proof_line down s.down_y ∷ proof_line right s.right_x ∷ proof_line right s.right_y ∷ reason_line s.reason ∷ []
 
--- not the text is at fault, but memory was wanting
+-- not the text is at fault, but memory ran out
 abbrev pub MemoryWasWanting : TextFault → Type 0
 MemoryWasWanting fault.NoMemory = Unit {0}
 MemoryWasWanting fault.NoProof = ⊥
 
--- what was read is such, or memory was wanting
+-- what was read is such, or memory ran out
 abbrev pub IsReadAs : {T : Type 0} → Result T TextFault → (T → Type 0) → Type 0
 IsReadAs (Ok x) P = P x
 IsReadAs (Err f) P = MemoryWasWanting f

@@ -28,7 +28,7 @@ word_text end = codes "end"
 word_text later = codes "later"
 word_text tie = codes "tie"
 
--- a line of a certificate: its word, and the identifiers behind it
+-- a line of a certificate: its word, and the identifiers after it
 pub record ProofLine : Type 0 where
   pub word : Word
   pub ids : List Identifier
@@ -37,11 +37,11 @@ pub record ProofLine : Type 0 where
 abbrev pub id_text : Identifier → List ℕ
 id_text id = decimal id.replica ++ 46 ∷ decimal id.counter
 
--- each identifier behind a space
+-- each identifier after a space
 abbrev pub ids_text : List Identifier → List ℕ
 ids_text ids = flat_map (λ id. 32 ∷ id_text id) ids
 
--- a word, each identifier behind a space, LF
+-- a word, each identifier after a space, LF
 abbrev pub word_with_ids : List ℕ → List Identifier → List ℕ
 word_with_ids word ids = word ++ (ids_text ids ++ 10 ∷ [])
 

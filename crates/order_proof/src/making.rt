@@ -29,7 +29,7 @@ fn common_count(xs: &[ElementId], ys: &[ElementId]) -> usize
     i
 }
 
-/// A slice behind its first members.
+/// A slice after its first members.
 fn behind(chain: &[ElementId], count: usize) -> &[ElementId]
     ensures { result.now ≡ drop count chain.now }
 {

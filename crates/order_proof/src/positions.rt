@@ -19,7 +19,7 @@ pub trait Positions {
         ensures count { result ≡ length (operations self.now) }
         ensures lawful { Lawful (reverse (operations self.now)) };
 
-    /// The operation that is so many behind the oldest.
+    /// The operation that is so many after the oldest.
     fn operation(&self, position: usize) -> Option<OpRef<'_>>
         ensures { option_map op_of result ≡ slice_get (operations self.now) position };
 

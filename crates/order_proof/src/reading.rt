@@ -36,8 +36,8 @@ impl<T: Drop> From<AllocFailed<T>> for TextFault {
 }
 
 impl Proof {
-    /// Reads the text of a certificate. None is the answer where the text is that of none. In steps by `Prefix` the
-    /// chains that the text leaves out are empty.
+    /// Reads the text of a certificate. Returns None where the text is that of none. In steps by `Prefix` the chains
+    /// that the text leaves out are empty.
     pub fn read(alloc: Global, text: &[u8]) -> Result<Option<Proof>, NoMemory>
         ensures none { IfOk result (λ found. IsNone found ↔ ((c : Certificate) → ¬ (IsProofText text.now c))) }
         ensures proof { IfOk result (λ found. IfSome found (λ proof.

@@ -27,7 +27,7 @@ fn find_byte(text: &[u8], byte: u8) -> Option<usize>
     text.iter().position(|b| *b == byte)
 }
 
-/// The text behind a piece with which it begins.
+/// The text after a piece with which it begins.
 pub(crate) fn strip<'a>(text: &'a [u8], piece: &[u8]) -> Option<&'a [u8]>
     ensures parts { IfSome result (λ rest. text.now ≡ piece.now ++ rest.now) }
     ensures every { (rest : List ℕ) → text.now ≡ piece.now ++ rest → IsSomeAnd result (λ found. found.now ≡ rest) }
@@ -121,7 +121,7 @@ impl<'a> Unread<'a> {
     }
 }
 
-/// Reads identifiers, each behind a space.
+/// Reads identifiers, each after a space.
 pub(crate) fn read_ids(alloc: Global, text: &[u8]) -> Result<Vec<ElementId>, TextFault>
     ensures ids { IfOk result (λ ids. (text.now ≡ ids_text ids.items) × All IsPossible ids.items) }
     ensures every { (ids : List Identifier) → All IsPossible ids → text.now ≡ ids_text ids

@@ -8,7 +8,7 @@ use crate::{Proof, Reason, Step};
 use fugue_ids::{ElementId, Failed, Out, write_pieces, write_whole};
 use itoa::Buffer;
 
-/// A word, and identifiers behind it.
+/// A word, and identifiers after it.
 #[derive(Clone, Copy)]
 struct Line<'a> {
     word: &'a [u8],
@@ -49,7 +49,7 @@ fn write_ids<O: Out>(out: &mut O, ids: &[ElementId]) -> Result<(), Failed>
     Ok(())
 }
 
-/// Writes a line: a word, and each identifier behind a space.
+/// Writes a line: a word, and each identifier after a space.
 fn write_line<O: Out>(out: &mut O, line: &Line) -> Result<(), Failed>
     ensures { WritesBytes (O.seen out.old) (O.seen out.new) result (word_with_ids line.now.word.now line.now.ids.now) }
 {

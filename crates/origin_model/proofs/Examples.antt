@@ -19,7 +19,7 @@ section = Section (id 9 0) None None (codes "T")
 abbrev letter : Identifier → Option Identifier → Option Identifier → ℕ → Op
 letter name left right ch = Text name (id 9 0) left right ch
 
--- B at the end of the text; A and D before B; X and Y behind A, X before B and Y before D
+-- B at the end of the text; A and D before B; X and Y after A, X before B and Y before D
 abbrev concurrent : List Op
 concurrent =
     section ∷ letter (id 1 0) None None 66 ∷ letter (id 1 1) None (at 1 0) 65 ∷ letter (id 2 0) None (at 1 0) 68
@@ -58,7 +58,7 @@ any_order_reads_the_same :
 unfolding settle closure verdict order chain
 any_order_reads_the_same = (refl, refl)
 
--- two letters of the section, the second behind the first, and a letter of a section that is a letter
+-- two letters of the section, the second after the first, and a letter of a section that is a letter
 abbrev first : Op
 first = letter (id 1 0) None None 97
 

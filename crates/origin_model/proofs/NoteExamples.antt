@@ -51,7 +51,7 @@ note_answers :
 unfolding settle verdict
 note_answers = (refl, refl, refl, refl, refl, refl, refl, refl)
 
--- what waits for a name joins behind it; what names a note joins whatever the note's kind
+-- what waits for a name joins after it; what names a note joins whatever the note's kind
 note_histories :
     ((held 65536 4194304 (on_section ∷ section ∷ [])).history ≡ on_section ∷ section ∷ [])
     × ((held 65536 4194304 (note ∷ Delete (id 1 0) ∷ [])).history ≡ Delete (id 1 0) ∷ note ∷ [])

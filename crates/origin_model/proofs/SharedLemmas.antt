@@ -31,7 +31,7 @@ pub use Rattle.origin_model.proofs.taking.ClosureLemmas.{same_closed}
 pub use Rattle.origin_model.proofs.taking.TakingLemmas.{accept_covers, accepted_by, accepted_is_ready, Covers, Covers-same, fold_covers, has-moved}
 pub use Rattle.origin_model.proofs.edits.NextCounterLemmas.{counters-append}
 pub use Rattle.origin_model.proofs.files.AppendLemmas.{batch_appended, before_gate, from_parts, new_file_holds, Parts, same_to_gate, to_parts, with_batch}
-pub use Rattle.origin_model.proofs.files.BatchLemmas.{batch_of, behind_word, is_batch, length_is, one_grammar, same_batch, word_is}
+pub use Rattle.origin_model.proofs.files.BatchLemmas.{batch_of, after_word, is_batch, length_is, one_grammar, same_batch, word_is}
 pub use Rattle.origin_model.proofs.frames.SingleLemmas.{IsSingle, framed_is, framed_of, single_of, singles_read}
 pub use Rattle.origin_model.proofs.frames.ItemLemmas.{bytes_of, item_framed, item_is_framed, ops_of, same_parts}
 pub use Rattle.origin_model.proofs.frames.TypedLemmas.{length-run, typed_more, typed_scalars}

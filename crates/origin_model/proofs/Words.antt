@@ -12,7 +12,7 @@ pub use Rattle.fugue_ids.specs.Ops.{id_of, op_eq}
 pub use Rattle.fugue_ids.specs.declared.op.Op.{Op}
 pub use Rattle.fugue_ids.specs.declared.op.Op.TheVariants.{Delete, Note, Section, Text}
 pub use Rattle.fugue_ids.proofs.IdentifierLemmas.{cases_id, cases_origin, eq-id_eq, id_eq-refl, id_eq-true, ne-id_eq, not_some, origin_eq-true}
-pub use Rattle.fugue_ids.proofs.ListLemmas.{all_before, all_behind, all_from_contains, all_from_map, all_insert, all_pairs_before, all_pairs_behind, all_pairs_head, all_pairs_nil}
+pub use Rattle.fugue_ids.proofs.ListLemmas.{all_before, all_after, all_from_contains, all_from_map, all_insert, all_pairs_before, all_pairs_after, all_pairs_head, all_pairs_nil}
 pub use Rattle.fugue_ids.proofs.ListLemmas.{all_pairs_tail, contains_around, contains_cases, contains_filter_from, contains_here, contains_middle, contains_middle_cases}
 pub use Rattle.fugue_ids.proofs.ListLemmas.{contains_none, contains_there}
 pub use Rattle.fugue_ids.proofs.OpLemmas.{op_eq-refl, op_eq-true}

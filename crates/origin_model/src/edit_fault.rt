@@ -1,12 +1,14 @@
+//! Why a local edit is refused.
+
 use fugue_ids::NoMemory;
 
-/// Why an edit or a note was not made, in the order in which the causes are looked for. All but want of memory change
-/// nothing; a note that was not made changes nothing at all.
+/// Why an edit or a note was not made, in the order in which the causes are looked for. All but an allocation failure
+/// change nothing; a note that was not made changes nothing at all.
 #[derive(Clone, Copy, Debug, PartialEq, Eq)]
 pub enum EditFault {
     /// There are not so many shown sections.
     NoSection,
-    /// The position is behind the end of what is shown.
+    /// The position is after the end of what is shown.
     OutOfRange,
     /// What is new needs counters past the greatest number: the greatest counter so far.
     IdsSpent(u32),

@@ -1,3 +1,5 @@
+//! Limits of a manuscript file: the longest batch, and the unit of a record's tag.
+
 /// The most bytes that the frames of one batch have.
 pub const LONGEST_BATCH: u32 = 268_435_456;
 

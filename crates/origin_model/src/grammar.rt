@@ -1,3 +1,5 @@
+//! The two versions of the frame format.
+
 /// Which frames there are.
 #[derive(Clone, Copy)]
 pub enum Grammar {

@@ -24,10 +24,10 @@ pub fn later_ops_keep_order()
     ensures parts { PartsKeepOrder }
 {}
 
-/// An element whose right origin stands directly behind its left origin lands between them, whoever made it.
+/// An element whose right origin stands directly after its left origin lands between them, whoever made it.
 ///
 /// The start and the end count as the two ends of the order. The law speaks of every lawful history, and not only of
-/// those that edits make. An element that is the first to have its left origin lands directly behind it wherever its
+/// those that edits make. An element that is the first to have its left origin lands directly after it wherever its
 /// right origin stands, so what was typed in a row stands as one piece.
 pub fn lands_behind()
     ensures between { LandsBehind }
@@ -88,7 +88,7 @@ pub fn closure_of_set()
     ensures merge { ClosureOfMerge }
 {}
 
-/// Two whole streams, one behind the other, are one: its operations are those of the first and then those of the second.
+/// Two whole streams, one after the other, are one: its operations are those of the first and then those of the second.
 ///
 /// The second one may be cut short or end in bytes that are no frame. The joined stream then ends so too, as many bytes
 /// further on as the first one has.

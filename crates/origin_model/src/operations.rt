@@ -13,7 +13,7 @@ pub use named::verdict_in;
 pub use names::{Named, Names, names_of};
 pub use node::Node;
 
-/// Want of memory for an operation, which comes back.
+/// An allocation failure for an operation, which comes back.
 #[derive(Debug, Drop)]
 pub struct NoMemoryFor {
     pub op: Op,

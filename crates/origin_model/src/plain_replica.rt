@@ -1,3 +1,5 @@
+//! A slow replica that follows the definitions literally: the reference for differential tests.
+
 ghost use Rattle.std.specs.Prelude.{◌≡◌, ◌∷◌, [], OnOk, OnErr, IfErr, IfOk};
 ghost use Rattle.fugue_ids.specs.Outs.{WritesBytes};
 ghost use Rattle.origin_model.specs.declared.operations.Verdict.TheVariants.{Ready};

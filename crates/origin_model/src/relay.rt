@@ -1,3 +1,5 @@
+//! What happens to a relay, and what it answers to a session.
+
 use fugue_ids::ByteList;
 
 /// The bytes that a session is sent, and whether it is closed by them.

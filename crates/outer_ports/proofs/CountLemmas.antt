@@ -14,7 +14,7 @@ count_so P Q k failed so = record {
   specified_no_fault = λ tells none. k.specified_no_fault tells (λ p. none (so p));
 }
 
--- calls that did not fail, and one behind them
+-- calls that did not fail, and one after them
 pub count_then : {old mid new : SourceView} (P : Type 0) → KeepsCount old mid ⊥ → KeepsCount mid new P → KeepsCount old new P
 count_then P k l = record {
   later = omega (arith, k.later, l.later);

@@ -8,7 +8,7 @@ use Rattle.outer_ports.specs.disk.Moments.{History, past_after_step, MayHaveWrit
 use Rattle.outer_ports.specs.disk.Disks.{DiskView, DiskIsSpecified, Looks, WritesAt, Syncs}
 use Rattle.outer_ports.specs.wire.Wires.{WireView, WireIsSpecified, out_of, Dials, WireReads, WireWrites}
 use Rattle.outer_ports.specs.dock.Steps.{GivesSome}
-use Rattle.outer_ports.specs.dock.Docks.{DockView, DockIsSpecified, ended_behind, out_to, Listens, Takes, Sends, EndsSession}
+use Rattle.outer_ports.specs.dock.Docks.{DockView, DockIsSpecified, ended_after, out_to, Listens, Takes, Sends, EndsSession}
 use Rattle.outer_ports.specs.declared.dock.DockStep.{DockStep}
 use Rattle.outer_ports.specs.declared.dock.MemStep.{MemStep}
 use Rattle.std.proofs.lemmas.Bool.{cases_eq}
@@ -98,7 +98,7 @@ take_tells (Err e) old new buf t tells = record {
   ended_at = same_tells t.ended_at tells.ended_at;
 }
 
-behind_tells : (old new sent : Option (List ℕ)) → new ≡ ended_behind old sent → IsSome old → IsSome sent → IsSome new
+behind_tells : (old new sent : Option (List ℕ)) → new ≡ ended_after old sent → IsSome old → IsSome sent → IsSome new
 behind_tells None new sent is tells sends = absurd (cc tells)
 behind_tells (Some counts) new None is tells sends = absurd (cc sends)
 behind_tells (Some counts) new (Some sent) is tells sends = same_tells is refl

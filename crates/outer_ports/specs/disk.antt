@@ -1,4 +1,4 @@
--- What is said of disks.
+-- Specifications of files that are read and written at offsets.
 pub mod States
 pub mod Moments
 pub mod Laws

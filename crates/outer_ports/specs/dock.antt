@@ -1,4 +1,4 @@
--- What is said of docks.
+-- Specifications of listeners.
 pub mod Steps
 pub mod Docks
 pub mod Streams

@@ -1,3 +1,3 @@
--- What is said of wires.
+-- Specifications of connections.
 pub mod Streams
 pub mod Wires

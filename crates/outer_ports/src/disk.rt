@@ -1,3 +1,5 @@
+//! The trait of a file that is read and written at offsets, and laws of what a crash leaves of it.
+
 ghost use Rattle.std.specs.Prelude.{◌≤◌, length, IfSome};
 ghost use Rattle.outer_ports.specs.disk.Disks.{DiskView, Sizes, ReadsAt, WritesAt, Syncs};
 ghost use Rattle.outer_ports.specs.disk.Laws.{ReadsStayHonest, RestIsHonest, SinceNow, SizesStayHonest, SpansJoin};
@@ -18,8 +20,8 @@ pub trait Disk {
     fn size(&mut self) -> Result<u64, Failed>
         ensures { Sizes (seen self.old) (seen self.new) result };
 
-    /// Gives bytes that stand from `at` on, and answers how many: none exactly at or past the end, or for an empty
-    /// buffer. What `buf` holds behind the given bytes is not said.
+    /// Gives bytes that stand from `at` on, and returns how many: none exactly at or past the end, or for an empty
+    /// buffer. What `buf` holds after the given bytes is not said.
     fn read_at(&mut self, at: u64, buf: &mut [u8]) -> Result<usize, Failed>
         ensures { ReadsAt (seen self.old) (seen self.new) result at buf.new };
 

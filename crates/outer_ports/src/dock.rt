@@ -1,3 +1,5 @@
+//! The trait of a listener that serves sessions one after the other, and the steps of a session.
+
 ghost use Rattle.std.specs.Prelude.{◌<◌, length};
 ghost use Rattle.outer_ports.specs.dock.Docks.{DockView, Listens, Takes, Sends, EndsSession};
 
@@ -41,12 +43,12 @@ pub trait Dock {
     fn listen(&mut self, port: u16) -> Result<(), Failed>
         ensures { Listens (seen self.old) (seen self.new) result port };
 
-    /// Takes the next step. What `buf` holds behind the bytes of the step is not said.
+    /// Takes the next step. What `buf` holds after the bytes of the step is not said.
     fn next(&mut self, buf: &mut [u8]) -> Result<DockStep, Failed>
         requires room { 0 < length buf.old }
         ensures takes { Takes (seen self.old) (seen self.new) result buf.new };
 
-    /// Sends a front of the piece to the session, at least one byte of a piece that is not empty, and answers how many.
+    /// Sends a front of the piece to the session, at least one byte of a piece that is not empty, and returns how many.
     fn send(&mut self, session: u32, piece: &[u8]) -> Result<usize, Failed>
         ensures { Sends (seen self.old) (seen self.new) result session piece.now };
 

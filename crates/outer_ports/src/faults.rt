@@ -1,3 +1,5 @@
+//! The count of I/O errors of an object, and how a system call's result is counted.
+
 ghost use Rattle.std.specs.Prelude.{◌≡◌, ◌↔◌, ◌≤◌, IsErr, IfOk, ◌⊎◌, ◌<◌, length};
 ghost use Rattle.outer_ports.specs.Counts.{CountsFaults};
 ghost use Rattle.outer_ports.specs.Calls.{risen};

@@ -1,3 +1,5 @@
+//! A count of values that came, and the last of them.
+
 ghost use Rattle.std.specs.Prelude.{◌≡◌};
 ghost use Rattle.outer_ports.specs.Latest.{never, once_more};
 

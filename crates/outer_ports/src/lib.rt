@@ -2,7 +2,6 @@
 //! system's streams, files and sockets, and a source and a sink in memory.
 #![tactic(auto)]
 
-mod again;
 mod calls;
 mod causes;
 mod disk;
@@ -10,6 +9,7 @@ mod dock;
 mod faults;
 mod latest;
 mod mem_sink;
+mod retry;
 mod std_sink;
 mod std_source;
 mod streams;

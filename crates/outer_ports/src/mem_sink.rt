@@ -1,3 +1,5 @@
+//! A sink in memory, which fails at calls that a test chooses.
+
 ghost use Rattle.std.specs.Prelude.{◌≡◌, ◌≤◌, [], Some, None};
 ghost use Rattle.fugue_ids.specs.Outs.{WritesSome};
 ghost use Rattle.outer_ports.specs.Forms.{MemWrites};
@@ -8,8 +10,8 @@ use fugue_ids::{Failed, Out};
 use std::alloc::Global;
 use std::marker::Model;
 
-/// Keeps what is written, as much in each call as its piece allows. It fails at the calls that it is set to, and
-/// where memory is wanting.
+/// Keeps what is written, as much in each call as its piece allows. It fails at the calls that it is set to, and where
+/// memory runs out.
 #[derive(Drop)]
 pub struct MemSink {
     bytes: Vec<u8>,

@@ -1,10 +1,12 @@
+//! A sink over any writer of the system, such as standard output.
+
 ghost use Rattle.std.specs.Prelude.{◌≡◌, None, OnOk, OnErr};
 ghost use Rattle.std.specs.Io.KnownBytes.{WriteAppends};
 ghost use Rattle.fugue_ids.specs.Outs.{WritesSome};
 ghost use Rattle.outer_ports.specs.Calls.{risen};
 
 use crate::faults::{Faults, taken};
-use crate::{Sink, again};
+use crate::{Sink, retry};
 use fugue_ids::{Failed, Out};
 use std::io::Write;
 
@@ -41,7 +43,7 @@ impl<W: Write + Drop> Out for StdSink<W> {
         ensures failed { OnErr result (self.new.faults ≡ risen self.old.faults) }
     {
         self.faults
-            .pass(taken(again::write(&mut self.writer, piece), piece))
+            .pass(taken(retry::write(&mut self.writer, piece), piece))
     }
 }
 

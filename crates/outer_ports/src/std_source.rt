@@ -1,10 +1,12 @@
+//! A source over any reader of the system, such as standard input.
+
 ghost use Rattle.std.specs.Prelude.{◌≡◌, None, false, OnOk, OnErr};
 ghost use Rattle.std.specs.Io.KnownBytes.{ReadConsumes};
 ghost use Rattle.outer_ports.specs.Sources.{ReadsSome};
 ghost use Rattle.outer_ports.specs.Calls.{risen};
 
 use crate::faults::Faults;
-use crate::{Source, again};
+use crate::{Source, retry};
 use fugue_ids::Failed;
 use std::io::Read;
 
@@ -40,6 +42,6 @@ impl<R: Read + Drop> Source for StdSource<R> {
         ensures passed { OnOk result (self.new.faults ≡ self.old.faults) }
         ensures failed { OnErr result (self.new.faults ≡ risen self.old.faults) }
     {
-        self.faults.pass(again::read(&mut self.reader, buf))
+        self.faults.pass(retry::read(&mut self.reader, buf))
     }
 }

@@ -1,3 +1,5 @@
+//! A source in memory that never fails, and gives its bytes in pieces.
+
 ghost use Rattle.std.specs.Prelude.{◌≡◌, ◌≤◌, Some, true, length};
 ghost use Rattle.outer_ports.specs.Sources.{ReadsSome};
 ghost use Rattle.outer_ports.specs.Forms.{SureReads};

@@ -1,3 +1,5 @@
+//! The trait of a client's connections, and what is known of one connection.
+
 ghost use Rattle.outer_ports.specs.wire.Wires.{WireView, Dials, WireReads, WireWrites};
 
 mod ahead;
@@ -24,12 +26,12 @@ pub trait Wire {
     fn dial(&mut self, port: u16) -> Result<(), Failed>
         ensures { Dials (seen self.old) (seen self.new) result port };
 
-    /// Gives the next bytes of what is left, and answers how many. An answer of 0 for a buffer that is not empty
-    /// comes only at the end. What `buf` holds behind the given bytes is not said.
+    /// Gives the next bytes of what is left, and returns how many. An answer of 0 for a buffer that is not empty comes
+    /// only at the end. What `buf` holds after the given bytes is not said.
     fn read(&mut self, buf: &mut [u8]) -> Result<usize, Failed>
         ensures { WireReads (seen self.old) (seen self.new) result buf.new };
 
-    /// Writes a front of the piece, at least one byte of a piece that is not empty, and answers how many.
+    /// Writes a front of the piece, at least one byte of a piece that is not empty, and returns how many.
     fn write(&mut self, piece: &[u8]) -> Result<usize, Failed>
         ensures { WireWrites (seen self.old) (seen self.new) result piece.now };
 }

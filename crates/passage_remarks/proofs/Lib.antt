@@ -1,4 +1,4 @@
-pub mod BorderLemmas
+pub mod BoundaryLemmas
 pub mod OrderLemmas
 pub mod PlaceLemmas
 pub mod RemarkLemmas

@@ -10,7 +10,7 @@ use Rattle.catalogue_notes.specs.Outlining.{entry_sections}
 use Rattle.catalogue_notes.specs.declared.entry.Entry.{Entry}
 use Rattle.margin_notes.specs.Listing.{number_from}
 
--- a section behind others has the place behind theirs
+-- a section after others has the place after theirs
 pub number_here : (k : ℕ) (xs : List Identifier) (x : Identifier) → (Contains xs x → ⊥) → number_from k (xs ++ x ∷ []) x ≡ Some (length xs + k)
 number_here k [] x n = let e : k ≡ 0 + k = omega arith in ap (λ b. if b then Some k else None) (eq-id_eq x x refl) ∙ ap Some e
 number_here k (y ∷ xs) x n =

@@ -66,19 +66,19 @@ one_writing a b x y (plain differs other e) (plain differs' other' f) is =
     let s : a ∷ x ≡ b ∷ y = sym (begins a x _ e) ∙ is ∙ begins b y _ f in
     (same_head _ _ _ _ s, same_tail _ _ _ _ s)
 
--- what is behind the first of two bytes that are spelled alike
+-- what is after the first of two bytes that are spelled alike
 escaped_same : (a b : ℕ) (x y : List ℕ) → escaped_byte a ++ x ≡ escaped_byte b ++ y → (a ≡ b) × (x ≡ y)
 escaped_same a b x y is = one_writing a b x y (written a) (written b) is
 
--- what is behind a front of a word
-behind_front : (done all rest : List ℕ) → word_of_passage done ++ rest ≡ word_of_passage all → (more : List ℕ) × (all ≡ done ++ more) × (word_of_passage more ≡ rest)
-behind_front [] all rest is = (all, refl, sym is)
-behind_front (a ∷ done) [] rest is =
+-- what is after a front of a word
+after_front : (done all rest : List ℕ) → word_of_passage done ++ rest ≡ word_of_passage all → (more : List ℕ) × (all ≡ done ++ more) × (word_of_passage more ≡ rest)
+after_front [] all rest is = (all, refl, sym is)
+after_front (a ∷ done) [] rest is =
     let long = ap length is in
     absurd (omega (arith, long, length-append (escaped_byte a ++ word_of_passage done) rest, length-append (escaped_byte a) (word_of_passage done), escaped_some a))
-behind_front (a ∷ done) (b ∷ all) rest is =
+after_front (a ∷ done) (b ∷ all) rest is =
     let same = escaped_same a b (word_of_passage done ++ rest) (word_of_passage all) (sym (append_assoc (escaped_byte a) (word_of_passage done) rest) ∙ is) in
-    let further = behind_front done all rest same.1 in
+    let further = after_front done all rest same.1 in
     (further.0, ap₂ (λ (c : ℕ) (l : List ℕ). c ∷ l) (sym same.0) further.1, further.2)
 
 -- one byte more was read
@@ -94,7 +94,7 @@ one_more word done rest behind b is first =
 pub stuck : (word done rest other : List ℕ) → word ≡ word_of_passage done ++ rest → 0 < length rest → ((b : ℕ) (y : List ℕ) → rest ≢ escaped_byte b ++ y)
     → word ≢ word_of_passage other
 stuck word done rest other is some none whole =
-    let behind = behind_front done other rest (sym is ∙ whole) in
+    let behind = after_front done other rest (sym is ∙ whole) in
     first behind.0 behind.2
   where
     first : (more : List ℕ) → word_of_passage more ≡ rest → ⊥

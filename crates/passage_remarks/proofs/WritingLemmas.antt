@@ -9,12 +9,12 @@ use Rattle.fugue_ids.specs.declared.op.Op.{Op}
 use Rattle.origin_model.specs.order.Printed.{text}
 use Rattle.catalogue_notes.specs.Arranged.{arranged}
 use Rattle.margin_notes.specs.Commenting.{clusters_of}
-use Rattle.passage_remarks.specs.Clusters.{borders_from, passage_cluster_count, cluster_ends, first_cluster, in_line, byte_in_line, cluster_starts}
+use Rattle.passage_remarks.specs.Clusters.{boundaries_from, passage_cluster_count, cluster_ends, first_cluster, in_line, byte_in_line, cluster_starts}
 use Rattle.passage_remarks.specs.Listing.{IsRemarkPlaced, section_texts}
 use Rattle.passage_remarks.specs.Remarks.{Remark, remark_text, remarks_from}
 
 module _ {X : Type 0} (h : List Op) (f : X → Remark) (xs : List X) where
-  -- what is reported of remarks from one on is what is reported of it, and of those behind it
+  -- what is reported of remarks from one on is what is reported of it, and of those after it
   pub remarks_next : (i : ℕ) (x : X) → i < length xs → x ≡ get_or xs i x
       → remarks_from h (suc i) (drop i (map f xs)) ≡ remark_text (clusters_of h (f x).section) (i + 1) (f x) ++ remarks_from h (suc (i + 1)) (drop (i + 1) (map f xs))
   remarks_next i x below is =
@@ -22,7 +22,7 @@ module _ {X : Type 0} (h : List Op) (f : X → Remark) (xs : List X) where
       ap (remarks_from h (suc i)) (drop-map f i xs ∙ ap (map f) (drop_more xs i x below ∙ ap (λ z. z ∷ drop (i + 1) xs) (sym is)) ∙ ap (λ l. f x ∷ l) (sym (drop-map f (i + 1) xs)))
       ∙ ap (λ k. remark_text (clusters_of h (f x).section) k (f x) ++ remarks_from h (suc k) (drop (i + 1) (map f xs))) one
 
-  -- and nothing is behind the last one
+  -- and nothing is after the last one
   pub remarks_none : (i : ℕ) → length xs ≤ i → remarks_from h (suc i) (drop i (map f xs)) ≡ []
   remarks_none i past = ap (remarks_from h (suc i)) (drop_all i (map f xs) (omega (arith, length-map xs f)))
 
@@ -46,19 +46,19 @@ pub in_line_each : (bytes : List ℕ) → flat_map (λ b. byte_in_line b ∷ [])
 in_line_each [] = refl
 in_line_each (b ∷ bs) = ap (λ l. byte_in_line b ∷ l) (in_line_each bs)
 
--- there is one border more than there are clusters
-borders_count : (n : ℕ) (cs : List (List ℕ)) → length (borders_from n cs) ≡ suc (length cs)
-borders_count n [] = refl
-borders_count n (c ∷ cs) = ap suc (borders_count (n + length (chars c)) cs)
+-- there is one boundary more than there are clusters
+boundaries_count : (n : ℕ) (cs : List (List ℕ)) → length (boundaries_from n cs) ≡ suc (length cs)
+boundaries_count n [] = refl
+boundaries_count n (c ∷ cs) = ap suc (boundaries_count (n + length (chars c)) cs)
 
 -- the clusters of a passage are some of the text
 pub clusters_within : (cs : List (List ℕ)) (from to : ℕ) → first_cluster cs from + passage_cluster_count cs from to ≤ length cs
 clusters_within cs from to =
-    let borders : List ℕ = borders_from 0 cs in
+    let boundaries : List ℕ = boundaries_from 0 cs in
     let p = count_by-le-length (λ end. nat_le end from) (cluster_ends cs) in
     let q = count_by-le-length (λ start. nat_lt start to) (cluster_starts cs) in
-    let ends_len : length (cluster_ends cs) ≡ length cs = omega (arith, length-drop 1 borders, borders_count 0 cs) in
-    let starts_len : length (cluster_starts cs) ≡ length cs = length-take-le (length cs) borders (omega (arith, borders_count 0 cs)) in
+    let ends_len : length (cluster_ends cs) ≡ length cs = omega (arith, length-drop 1 boundaries, boundaries_count 0 cs) in
+    let starts_len : length (cluster_starts cs) ≡ length cs = length-take-le (length cs) boundaries (omega (arith, boundaries_count 0 cs)) in
     elim (nat_lt from to) as (λ (b : Bool). first_cluster cs from +
     (if b then count_by (λ start. nat_lt start to) (cluster_starts cs) - first_cluster cs from else 0) ≤ length cs) [
       | true ↦ omega (arith, p, q, ends_len, starts_len)

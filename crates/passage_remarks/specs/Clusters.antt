@@ -1,20 +1,20 @@
--- Where a passage of scalars stands among the clusters of its text: from the border before it to the border behind it.
+-- Where a passage of scalars stands among the clusters of its text: from the boundary before it to the boundary after it.
 use Rattle.std.specs.Prelude.{ℕ, ◌+◌, ◌-◌, nat_eq, nat_le, nat_lt, if◌then◌else◌, List, [], ◌∷◌, count_by, drop, length, map, take}
 use Rattle.std.specs.List.{concat}
 use Rattle.std.specs.Str.{chars}
 
--- the borders of clusters, in scalars, the first of them at n: one more than there are clusters
-abbrev pub borders_from : ℕ → List (List ℕ) → List ℕ
-borders_from n [] = n ∷ []
-borders_from n (c ∷ cs) = n ∷ borders_from (n + length (chars c)) cs
+-- the boundaries of clusters, in scalars, the first of them at n: one more than there are clusters
+abbrev pub boundaries_from : ℕ → List (List ℕ) → List ℕ
+boundaries_from n [] = n ∷ []
+boundaries_from n (c ∷ cs) = n ∷ boundaries_from (n + length (chars c)) cs
 
 -- where each cluster begins
 abbrev pub cluster_starts : List (List ℕ) → List ℕ
-cluster_starts cs = take (length cs) (borders_from 0 cs)
+cluster_starts cs = take (length cs) (boundaries_from 0 cs)
 
 -- where each cluster ends
 abbrev pub cluster_ends : List (List ℕ) → List ℕ
-cluster_ends cs = drop 1 (borders_from 0 cs)
+cluster_ends cs = drop 1 (boundaries_from 0 cs)
 
 -- how many clusters end at the scalar `from` or before it: the number of the first cluster of a passage that begins there
 abbrev pub first_cluster : List (List ℕ) → (from : ℕ) → ℕ

@@ -5,5 +5,5 @@ pub mod Finding
 pub mod Remarking
 pub mod Spelling
 pub mod Laws
-pub mod Borders
+pub mod Boundaries
 pub mod Listing

@@ -1,4 +1,4 @@
--- The entries of remarks, as they are kept.
+-- The entries of remarks: which remark each one is, and the texts of the sections that they are in.
 use Rattle.std.specs.Prelude.{◌≡◌, ◌≤◌, ◌-◌, ℕ, Some, List, map, slice_get}
 use Rattle.std.specs.Str.{encode_utf8_all}
 use Rattle.fugue_ids.specs.declared.op.Op.{Op}

@@ -66,8 +66,8 @@ line_of_text replica text = decimal replica ++ 32 ∷ text ++ 10 ∷ []
 abbrev pub head_line : (number : ℕ) → Remark → (first count : ℕ) → List ℕ
 head_line number r first count = place_text number r.place first count ++ line_of_text r.id.replica r.text
 
--- what is reported of a remark with this number, by the clusters of its section: its passage goes from the border before it
--- to the border behind it
+-- what is reported of a remark with this number, by the clusters of its section: its passage goes from the boundary before
+-- it to the boundary after it
 abbrev pub remark_text : List (List ℕ) → (number : ℕ) → Remark → List ℕ
 remark_text cs number r =
     let first = first_cluster cs r.from in

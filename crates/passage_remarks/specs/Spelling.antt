@@ -15,7 +15,7 @@ pub record IsSpelled (word : List ℕ) : Type 0 where
   pub some : passage ≢ []
   pub word_is : word ≡ word_of_passage passage
 
--- the passage that a word spells: behind a backslash an `n` stands for LF, and another byte for itself
+-- the passage that a word spells: after a backslash an `n` stands for LF, and another byte for itself
 unfoldable pub passage_of : (word : List ℕ) → List ℕ
 passage_of [] = []
 passage_of (byte ∷ []) = byte ∷ []

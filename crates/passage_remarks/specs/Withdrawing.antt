@@ -34,7 +34,7 @@ pub record IsWithdrawn (old new : State) (n : ℕ) : Type 0 where
   pub ready : verdict old.held.history (Delete remark.id) ≡ Ready
   pub gained : Gains old new (Delete remark.id ∷ [])
 
--- a refusal comes with its cause alone, and where there is a cause, its refusal comes, or want of memory
+-- a refusal comes with its cause alone, and where there is a cause, its refusal comes, or an allocation failure
 pub record RefusesWithdrawal (s : State) (n : ℕ) (result : Result (Unit {0}) WithdrawFault) : Type 0 where
   pub only : (fault : WithdrawFault) → fault ≢ NoMemory → result ≡ Err fault → withdraw_refusal s n ≡ Some fault
   pub always : IfSome (withdraw_refusal s n) (λ fault. (result ≡ Err fault) ⊎ (result ≡ Err NoMemory))

@@ -1,12 +1,12 @@
-//! The text of a section with the borders of its clusters.
+//! The text of a section with the boundaries of its clusters.
 ghost use Rattle.std.specs.Prelude.{◌≡◌, ◌≤◌, ◌+◌, ◌-◌, ◌<◌, ◌^◌, ℕ, List, IfOk, count_by, drop, length, nat_le, nat_lt, string_bytes, take};
 ghost use Rattle.std.specs.List.{concat};
 ghost use Rattle.std.specs.List.Sorted.{IsNonDecreasingBy};
 ghost use Rattle.std.specs.Str.{IsUtf8, chars};
 ghost use Rattle.unicode_segmentation.specs.Iter.{graphemes_left};
 ghost use Rattle.cluster_text.specs.Clusters.{clusters};
-ghost use Rattle.passage_remarks.specs.Borders.{kept_borders};
-ghost use Rattle.passage_remarks.specs.declared.page.Border.{Border as AnyBorder};
+ghost use Rattle.passage_remarks.specs.Boundaries.{kept_boundaries};
+ghost use Rattle.passage_remarks.specs.declared.page.Boundary.{Boundary as AnyBoundary};
 ghost use Rattle.passage_remarks.specs.Clusters.{passage_cluster_count as count_in, cluster_text, first_cluster as first_in};
 
 use fugue_ids::NoMemory;
@@ -14,9 +14,9 @@ use std::alloc::Global;
 use std::marker::Model;
 use unicode_segmentation::UnicodeSegmentation;
 
-/// A border of clusters: how many scalars and how many bytes of the text stand before it.
+/// A boundary of clusters: how many scalars and how many bytes of the text stand before it.
 #[derive(Clone, Copy)]
-pub(crate) struct Border {
+pub(crate) struct Boundary {
     pub scalars: usize,
     pub bytes: usize,
 }
@@ -25,19 +25,19 @@ pub(crate) struct Border {
 #[derive(Drop)]
 pub(crate) struct Page {
     text: String,
-    borders: Vec<Border>,
+    boundaries: Vec<Boundary>,
 }
 
 impl Model for Page {
     ghost use Rattle.std.specs.Prelude.{◌≡◌, List, ℕ, string_bytes};
     ghost use Rattle.cluster_text.specs.Clusters.{clusters};
-    ghost use Rattle.passage_remarks.specs.Borders.{kept_borders};
+    ghost use Rattle.passage_remarks.specs.Boundaries.{kept_boundaries};
 
     ghost Value = { List ℕ };
 
     ghost view = { λ page. string_bytes page.text };
 
-    ghost invariant = { λ page. page.borders.items ≡ kept_borders 0 0 (clusters (string_bytes page.text)) };
+    ghost invariant = { λ page. page.boundaries.items ≡ kept_boundaries 0 0 (clusters (string_bytes page.text)) };
 }
 
 /// How many scalars a cluster has.
@@ -48,43 +48,43 @@ fn scalar_count(cluster: &str) -> usize
     cluster.chars().count()
 }
 
-/// The borders of the clusters of a text.
-fn borders_of(alloc: Global, text: &str) -> Result<Vec<Border>, NoMemory>
-    ensures { IfOk result (λ borders. borders.items ≡ kept_borders 0 0 (clusters text.now)) }
+/// The boundaries of the clusters of a text.
+fn boundaries_of(alloc: Global, text: &str) -> Result<Vec<Boundary>, NoMemory>
+    ensures { IfOk result (λ boundaries. boundaries.items ≡ kept_boundaries 0 0 (clusters text.now)) }
 {
-    let mut borders = Vec::new(alloc);
+    let mut boundaries = Vec::new(alloc);
     let [mut scalars, mut bytes] = [0, 0];
     let mut graphemes = text.graphemes(true);
     'clusters: while let Some(cluster) = graphemes.next() {
-        borders.push(Border { scalars, bytes })?;
+        boundaries.push(Boundary { scalars, bytes })?;
         scalars += scalar_count(cluster);
         bytes += cluster.len();
     }
-    borders.push(Border { scalars, bytes })?;
-    Ok(borders)
+    boundaries.push(Boundary { scalars, bytes })?;
+    Ok(boundaries)
 }
 
-/// How many of the borders stand at the scalar or before it.
-fn count_up_to(borders: &[Border], at: usize) -> usize
-    requires { IsNonDecreasingBy (λ (b : AnyBorder). b.scalars) borders.now }
-    ensures { result ≡ count_by (λ (b : AnyBorder). nat_le b.scalars at) borders.now }
+/// How many of the boundaries stand at the scalar or before it.
+fn count_up_to(boundaries: &[Boundary], at: usize) -> usize
+    requires { IsNonDecreasingBy (λ (b : AnyBoundary). b.scalars) boundaries.now }
+    ensures { result ≡ count_by (λ (b : AnyBoundary). nat_le b.scalars at) boundaries.now }
 {
-    borders.partition_point(|border| border.scalars <= at)
+    boundaries.partition_point(|boundary| boundary.scalars <= at)
 }
 
-/// How many of the borders stand before the scalar.
-fn count_before(borders: &[Border], at: usize) -> usize
-    requires { IsNonDecreasingBy (λ (b : AnyBorder). b.scalars) borders.now }
-    ensures { result ≡ count_by (λ (b : AnyBorder). nat_lt b.scalars at) borders.now }
+/// How many of the boundaries stand before the scalar.
+fn count_before(boundaries: &[Boundary], at: usize) -> usize
+    requires { IsNonDecreasingBy (λ (b : AnyBoundary). b.scalars) boundaries.now }
+    ensures { result ≡ count_by (λ (b : AnyBoundary). nat_lt b.scalars at) boundaries.now }
 {
-    borders.partition_point(|border| border.scalars < at)
+    boundaries.partition_point(|boundary| boundary.scalars < at)
 }
 
-/// The borders behind the first one.
-fn behind_first(borders: &[Border]) -> &[Border]
-    ensures { result.now ≡ drop 1 borders.now }
+/// The boundaries after the first one.
+fn after_first(boundaries: &[Boundary]) -> &[Boundary]
+    ensures { result.now ≡ drop 1 boundaries.now }
 {
-    match borders {
+    match boundaries {
         [_, behind @ ..] => behind,
         [] => &[],
     }
@@ -103,15 +103,15 @@ impl Page {
     pub(crate) fn new(alloc: Global, text: String) -> Result<Page, NoMemory>
         ensures { IfOk result (λ page. page ≡ string_bytes text) }
     {
-        let borders = borders_of(alloc, text.as_str())?;
-        Ok(Page { text, borders })
+        let boundaries = boundaries_of(alloc, text.as_str())?;
+        Ok(Page { text, boundaries })
     }
 
     /// How many clusters end at the scalar or before it.
     pub(crate) fn first_cluster(&self, from: usize) -> usize
         ensures { result ≡ first_in (clusters self.now) from }
     {
-        count_up_to(behind_first(self.borders.as_slice()), from)
+        count_up_to(after_first(self.boundaries.as_slice()), from)
     }
 
     /// How many clusters have scalars of the passage.
@@ -121,8 +121,8 @@ impl Page {
         if from >= to {
             return 0;
         }
-        let count = self.borders.len() - 1;
-        let behind = count_before(&self.borders[..count], to);
+        let count = self.boundaries.len() - 1;
+        let behind = count_before(&self.boundaries[..count], to);
         behind.saturating_sub(self.first_cluster(from))
     }
 
@@ -132,7 +132,7 @@ impl Page {
         ensures bytes { result ≡ length (concat (take count (clusters self.now))) }
         ensures few { length (clusters self.now) < 2 ^ 63 }
     {
-        self.borders[count].bytes
+        self.boundaries[count].bytes
     }
 
     /// The text of so many clusters, from the cluster `first` on.

@@ -29,7 +29,7 @@ pub fn is_spelled(word: &[u8]) -> bool
     rest.is_empty() && !word.is_empty()
 }
 
-/// The passage that a word spells. None is the answer where it spells none, or memory is wanting.
+/// The passage that a word spells. Returns None where it spells none, or memory runs out.
 pub fn read_passage(alloc: Global, word: &[u8]) -> Option<Vec<u8>>
     ensures { IfSome result (λ passage. (word.now ≡ word_of_passage passage.items) × (passage.items ≢ [])
         × (passage.items ≡ passage_of word.now)) }

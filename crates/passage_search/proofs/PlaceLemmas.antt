@@ -29,9 +29,9 @@ module _ (text passage : List ℕ) (low high : ℕ) (order : low ≤ high) (none
     | inr behind ↦ nowhere k behind to there
   ]
 
-  pub found_behind : (found : Option ℕ) → FindsNeedle text passage high found → FindsNeedle text passage low found
-  found_behind None nowhere = none_up_to (length text + 1) nowhere
-  found_behind (Some k) is = (record { low = omega (arith, order, is.0.low); high = is.0.high; before = none_up_to k is.0.before }, is.1)
+  pub found_after : (found : Option ℕ) → FindsNeedle text passage high found → FindsNeedle text passage low found
+  found_after None nowhere = none_up_to (length text + 1) nowhere
+  found_after (Some k) is = (record { low = omega (arith, order, is.0.low); high = is.0.high; before = none_up_to k is.0.before }, is.1)
 
 module _ (text passage : List ℕ) where
   pub found_here : (at : ℕ) → OccursAt text passage at → FindsNeedle text passage at (Some at)
@@ -45,8 +45,8 @@ module _ (text passage : List ℕ) where
   )
 
   -- a place of the rest
-  occurs_behind : (passed k : ℕ) → passed ≤ length text → OccursAt (drop passed text) passage k → OccursAt text passage (passed + k)
-  occurs_behind passed k within there = record {
+  occurs_after : (passed k : ℕ) → passed ≤ length text → OccursAt (drop passed text) passage k → OccursAt text passage (passed + k)
+  occurs_after passed k within there = record {
     fits = omega (arith, there.fits, length-drop passed text, within);
     reads = λ j inside. (let e : passed + k + j ≡ passed + (k + j) = omega arith in ap (λ n. get_or text n 0) e) ∙ sym (get_or-drop passed text (k + j) 0) ∙ there.reads j inside;
   }
@@ -58,20 +58,20 @@ module _ (text passage : List ℕ) where
   }
 
   module _ (from : ℕ) (within : from ≤ length text) where
-    nowhere_behind : (n : ℕ) → Nowhere (OccursAt (drop from text) passage) 0 n → Nowhere (OccursAt text passage) from (from + n)
-    nowhere_behind n nowhere k low high there =
+    nowhere_after : (n : ℕ) → Nowhere (OccursAt (drop from text) passage) 0 n → Nowhere (OccursAt text passage) from (from + n)
+    nowhere_after n nowhere k low high there =
         let e : k ≡ from + (k - from) = omega (arith, low) in
         nowhere (k - from) (omega arith) (omega (arith, low, high)) (occurs_before from (k - from) within (subst (OccursAt text passage) e there))
 
     -- a search of the rest
     pub none_in_rest : FindsNeedle (drop from text) passage 0 None → FindsNeedle text passage from None
     none_in_rest nowhere k low high =
-        nowhere_behind (length (drop from text) + 1) nowhere k low (omega (arith, high, length-drop from text, within))
+        nowhere_after (length (drop from text) + 1) nowhere k low (omega (arith, high, length-drop from text, within))
 
     pub one_in_rest : (at : ℕ) → FindsNeedle (drop from text) passage 0 (Some at) → FindsNeedle text passage from (Some (from + at))
     one_in_rest at is =
-        let there : OccursAt text passage (from + at) = occurs_behind from at within is.1 in
-        (record { low = omega arith; high = omega (arith, there.fits); before = nowhere_behind at is.0.before }, there)
+        let there : OccursAt text passage (from + at) = occurs_after from at within is.1 in
+        (record { low = omega arith; high = omega (arith, there.fits); before = nowhere_after at is.0.before }, there)
 
   -- the places below a number
   abbrev below : ℕ → List ℕ

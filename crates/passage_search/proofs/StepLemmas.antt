@@ -16,17 +16,17 @@ pub rest_of : (n : ℕ) (l : List ℕ) → take (length l - n) (drop n l) ≡ dr
 rest_of n l = take_all (length l - n) (drop n l) (omega (arith, length-drop n l))
 
 -- what a list that begins with another one is
-pub begins_with : (l front same_l same_front : List ℕ) → l ≡ same_l → front ≡ same_front → (begins : Bool) → begins ≡ starts_with nat_eq l front → begins ≡ true
-    → same_l ≡ same_front ++ drop (length same_front) same_l
-begins_with l front same_l same_front e f begins is so =
-    (starts_is Decides-eqb same_l same_front begins (is ∙ ap (λ m. starts_with nat_eq m front) e ∙ ap (starts_with nat_eq same_l) f)).0 so
+pub begins_with : (l front same_l common_prefix : List ℕ) → l ≡ same_l → front ≡ common_prefix → (begins : Bool) → begins ≡ starts_with nat_eq l front → begins ≡ true
+    → same_l ≡ common_prefix ++ drop (length common_prefix) same_l
+begins_with l front same_l common_prefix e f begins is so =
+    (starts_is Decides-eqb same_l common_prefix begins (is ∙ ap (λ m. starts_with nat_eq m front) e ∙ ap (starts_with nat_eq same_l) f)).0 so
 
 pub has_some : (l : List ℕ) → l ≢ [] → 0 < length l
 has_some [] none = absurd (none refl)
 has_some (x ∷ l) none = omega arith
 
 module _ (text passage : List ℕ) where
-  -- of two places that overlap, one lies a period behind the other
+  -- of two places that overlap, one lies a period after the other
   period_between : (at d : ℕ) → OccursAt text passage at → OccursAt text passage (at + d) → IsPeriod (slice_index passage) (length passage) d
   period_between at d here there k short =
       let e : at + d + k ≡ at + (k + d) = omega arith in

@@ -1,7 +1,9 @@
+//! Where a passage occurs in a text: how often, and the first time.
+
 ghost use Rattle.std.specs.Prelude.{◌≡◌, ◌≢◌, ◌<◌, ◌+◌, ◌^◌, []};
 ghost use Rattle.passage_search.specs.Places.{ArePlaces};
 
-use crate::steps::{place_behind, place_from, step_of};
+use crate::steps::{place_after, place_from, step_of};
 use memchr::memmem::Finder;
 
 /// The places at which a passage stands in a text: how many they are, overlapping ones counted, and the first of them.
@@ -12,7 +14,7 @@ pub struct Places {
 }
 
 impl Places {
-    /// The same, and one more behind them.
+    /// The same, and one more after them.
     fn and_one(self, at: usize) -> Places
         requires { self.count + 1 < 2 ^ 64 }
         ensures count { result.count ≡ self.count + 1 }
@@ -37,7 +39,7 @@ pub fn places_of(text: &[u8], passage: &[u8]) -> Places
     let mut next = place_from(finder, text, 0);
     'places: while let Some(at) = next {
         places = places.and_one(at);
-        next = place_behind(finder, step, text, at);
+        next = place_after(finder, step, text, at);
     }
     places
 }

@@ -1,10 +1,12 @@
+//! Which clusters of a text a range of bytes touches.
+
 ghost use Rattle.std.specs.Prelude.{◌≡◌, if◌then◌else◌};
 ghost use Rattle.cluster_text.specs.Clusters.{clusters as clusters_of};
 ghost use Rattle.passage_search.specs.Spans.{clusters_spanned};
 
 use unicode_segmentation::UnicodeSegmentation;
 
-/// Some clusters of a text, one behind the other: how many stand before them, and how many they are.
+/// Some clusters of a text, one after the other: how many stand before them, and how many they are.
 #[derive(Clone, Copy)]
 pub struct Span {
     pub first: usize,

@@ -1,7 +1,7 @@
 //! The next place of a passage, where places may overlap.
 //!
 //! A passage that begins anew within its first half, as `aaaa` or `abab`, can stand at very many places, each a step
-//! behind the one before. There only the bytes of one step are compared for each place. Places of any other passage are
+//! after the one before. There only the bytes of one step are compared for each place. Places of any other passage are
 //! at least half of it apart. So all places are found in a time that is linear in the text and the passage.
 ghost use Rattle.std.specs.Prelude.{◌≢◌, ◌+◌, ◌≤◌, [], length};
 ghost use Rattle.memchr.specs.Find.{FindsNeedle, OccursAt};
@@ -14,7 +14,7 @@ use memchr::memmem::{Finder, find};
 pub(crate) struct Step {
     /// No two places are nearer.
     pub bytes: usize,
-    /// Whether each byte of the passage is the same as the one so many bytes behind it.
+    /// Whether each byte of the passage is the same as the one so many bytes after it.
     pub repeats: bool,
 }
 
@@ -36,7 +36,7 @@ pub(crate) fn step_of(passage: &[u8]) -> Step
     }
 }
 
-/// The first place at a byte of the text or behind it.
+/// The first place at a byte of the text or after it.
 pub(crate) fn place_from(finder: &Finder, text: &[u8], from: usize) -> Option<usize>
     requires { from ≤ length text.now }
     ensures { FindsNeedle text.now finder.now from result }
@@ -45,8 +45,8 @@ pub(crate) fn place_from(finder: &Finder, text: &[u8], from: usize) -> Option<us
     Some(from + at)
 }
 
-/// The first place behind this one.
-pub(crate) fn place_behind(finder: &Finder, step: Step, text: &[u8], at: usize) -> Option<usize>
+/// The first place after this one.
+pub(crate) fn place_after(finder: &Finder, step: Step, text: &[u8], at: usize) -> Option<usize>
     requires step { IsSafeStep finder.now step }
     requires place { OccursAt text.now finder.now at }
     ensures { FindsNeedle text.now finder.now (at + 1) result }

@@ -12,7 +12,7 @@ use Rattle.op_frame.proofs.DecodingLemmas.{no_run}
 use Rattle.relay_core.specs.Joins.{JoinsAll, JoinsFrame, JoinsOne}
 use Rattle.relay_core.specs.Texts.{with_op, log_with_ops}
 
--- an operation, by whether its own frame is logged and whether the log is full, and then those behind it
+-- an operation, by whether its own frame is logged and whether the log is full, and then those after it
 abbrev by_tests : (limit : ℕ) → List (List ℕ) → (cursor : ℕ) → (own : List ℕ) → List Op → (p q : Bool) → Taken
 by_tests limit log cursor own ops p q = if p then log_joined limit log cursor ops else if q then session_refused log 2 else log_joined limit (log ++ own ∷ []) cursor ops
 
@@ -55,7 +55,7 @@ all_join limit cursor xs ys log room =
     ap (log_joined limit log cursor) (sym (append-nil xs))
     ∙ joined_past limit cursor xs [] log (omega (arith, room, ap length (with_ops-append xs ys log), grown (log_with_ops log xs) ys))
 
--- an operation that a full log lacks is refused, and with it those behind it
+-- an operation that a full log lacks is refused, and with it those after it
 pub one_too_many : (limit cursor : ℕ) (before : List Op) (op : Op) (later : List Op) (log : List (List ℕ)) → is_logged (log_with_ops log before) (frame op) ≡ false
     → length (log_with_ops log before) ≡ limit
     → log_joined limit log cursor (before ++ op ∷ later) ≡ session_refused (log_with_ops log before) 2

@@ -101,7 +101,7 @@ joined_joins limit cursor log ops room =
           }
     ]
 
--- a log with operations has more frames behind its own
+-- a log with operations has more frames after its own
 with_more : (log : List (List ℕ)) (ops : List Op) → (more : List (List ℕ)) × (log_with_ops log ops ≡ log ++ more)
 with_more log [] = ([], sym (append-nil log))
 with_more log (op ∷ ops) =
@@ -113,7 +113,7 @@ with_more log (op ∷ ops) =
     let rest = with_more (with_op log op) ops in
     (one.0 ++ rest.0, rest.1 ∙ ap (λ l. l ++ rest.0) one.1 ∙ append_assoc log one.0 rest.0)
 
--- a log with more frames behind it, no more than the limit, which is one of operations where it was one
+-- a log with more frames after it, no more than the limit, which is one of operations where it was one
 record Grows (limit : ℕ) (old new : List (List ℕ)) : Type 0 where
   more : List (List ℕ)
   grown : new ≡ old ++ more
@@ -124,8 +124,8 @@ unchanged : (limit : ℕ) (old new : List (List ℕ)) → length old ≤ limit �
 unchanged limit old new room e =
     record { more = []; grown = e ∙ sym (append-nil old); few = omega (arith, room, ap length e); ops = λ all is. (all, subst (λ l. IsLogOf l all) (sym e) is) }
 
-one_behind : (limit : ℕ) (a b c : List (List ℕ)) → Grows limit a b → Grows limit b c → Grows limit a c
-one_behind limit a b c first second =
+one_after : (limit : ℕ) (a b c : List (List ℕ)) → Grows limit a b → Grows limit b c → Grows limit a c
+one_after limit a b c first second =
     record {
       more = first.more ++ second.more;
       grown = second.grown ∙ ap (λ l. l ++ second.more) first.grown ∙ append_assoc a first.more second.more;
@@ -182,7 +182,7 @@ takes_grow : (limit : ℕ) (bytes : List ℕ) (before after : Taken) → length 
 takes_grow limit [] before after room t = unchanged limit before.log after.log room (ap (λ (r : Taken). r.log) t)
 takes_grow limit (byte ∷ bytes) before after room t =
     let first : Grows limit before.log t.0.log = one_grows limit byte before.log before.next t.0 room t.1 in
-    one_behind limit before.log t.0.log after.log first (takes_grow limit bytes t.0 after first.few t.2)
+    one_after limit before.log t.0.log after.log first (takes_grow limit bytes t.0 after first.few t.2)
 
 -- a relay with the same limit, whose log grew
 record Follows (old new : Relay) : Type 0 where
@@ -214,7 +214,7 @@ run_follows old new (event ∷ events) replies room t =
     let rest : Follows t.0 new = run_follows t.0 new events t.2 (subst (λ l. length t.0.log ≤ l) (sym first.limit) first.grows.few) t.4 in
     record {
       limit = rest.limit ∙ first.limit;
-      grows = one_behind old.limit old.log t.0.log new.log first.grows (subst (λ l. Grows l t.0.log new.log) first.limit rest.grows);
+      grows = one_after old.limit old.log t.0.log new.log first.grows (subst (λ l. Grows l t.0.log new.log) first.limit rest.grows);
     }
 
 -- the log of a relay is one of operations

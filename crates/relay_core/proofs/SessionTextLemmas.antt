@@ -1,4 +1,4 @@
--- What a text comes to, from its opening on and behind the text that came before.
+-- What a text comes to, from its opening on and after the text that came before.
 use Rattle.std.proofs.Common.{[], Bool, List, ap, arith, false, length, nat_eq, nat_lt, refl, subst, sym, true, ℕ, ◌++◌, ◌<◌, ◌∙◌, ◌∷◌, ◌≡◌, ◌≤◌}
 use Rattle.std.specs.Prelude.{None, Some, if◌then◌else◌}
 use Rattle.std.specs.Int.{from_be_bytes, w32}
@@ -9,7 +9,7 @@ use Rattle.origin_model.proofs.SharedLemmas.{closed_takes, takes-append}
 use Rattle.origin_model.specs.declared.grammar.Grammar.TheVariants.{Version2}
 use Rattle.op_frame.proofs.ReadingLemmas.{no_bytes_are_partial}
 use Rattle.relay_core.specs.Sessions.{becomes}
-use Rattle.relay_core.specs.Texts.{Beyond, SessionText, Greets, IsSessionText, IsGreetingFront, NoGreeting, SaysCursor, Speaks, reply_to_text, log_behind, log_with_ops}
+use Rattle.relay_core.specs.Texts.{Beyond, SessionText, Greets, IsSessionText, IsGreetingFront, NoGreeting, SaysCursor, Speaks, reply_to_text, log_after, log_with_ops}
 use Rattle.relay_core.proofs.TextLemmas.{Reads, behind, none_starts, outcome, reads, rest_takes, starts_take}
 
 -- the first bytes of a greeting
@@ -62,9 +62,9 @@ reading_by session_text text = record { cursor = None; rest = text }
 
 -- what a session of this form comes to
 abbrev pub taken_by : SessionText → List (List ℕ) → List ℕ → Taken
-taken_by session_text log text = record { log = log_behind session_text log; next = becomes (reply_to_text session_text log) (reading_by session_text text) }
+taken_by session_text log text = record { log = log_after session_text log; next = becomes (reply_to_text session_text log) (reading_by session_text text) }
 
--- the greeting of a text, and what it says behind it
+-- the greeting of a text, and what it says after it
 says_takes : (limit : ℕ) (log : List (List ℕ)) (text : List ℕ) (cursor : ℕ) (new : List Op) (rest : List ℕ) (after : Taken) → (says : SaysCursor text cursor new rest)
     → TakesAll limit says.messages (at_cursor log cursor) after → TakesAll limit text (record { log = log; next = Goes unread }) after
 says_takes limit log text cursor new rest after says h =

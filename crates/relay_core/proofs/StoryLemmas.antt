@@ -11,9 +11,9 @@ use Rattle.origin_model.specs.frames.Frames.{Framed, IsFrame, IsItem, IsPartial,
 use Rattle.origin_model.specs.relay.Session.{Closes, Goes, Next, SessionReading, Taken, TakesAll, session_goes_on, greeting, unread}
 use Rattle.origin_model.proofs.SharedLemmas.{all_once, bytes_of, length-run, ops_of, partly, takes-append}
 use Rattle.op_frame.proofs.CodeLemmas.{same_fronts}
-use Rattle.op_frame.proofs.ReadingLemmas.{frames_once, same_front}
+use Rattle.op_frame.proofs.ReadingLemmas.{frames_once, common_prefix}
 use Rattle.relay_core.specs.Texts.{Beyond, Closed, SessionText, Foreign, Greets, HasCome, IsSessionText, IsGreetingFront, NoGreeting, OneTooMany, SaysCursor, Speaks, Unfinished}
-use Rattle.relay_core.specs.Texts.{reply_to_text, log_behind, log_with_ops}
+use Rattle.relay_core.specs.Texts.{reply_to_text, log_after, log_with_ops}
 use Rattle.relay_core.proofs.SessionTextLemmas.{outcome_found, outcome_takes, greeting_goes, reading_by, taken_by}
 use Rattle.relay_core.proofs.JoiningLemmas.{grown}
 use Rattle.relay_core.proofs.TextLemmas.{Reads, behind, front_goes, outcome, reads, rest_takes, starts_take}
@@ -74,7 +74,7 @@ new_frames [] hs rest next new p q same ops = record { found = hs; are_frames = 
 new_frames (f ∷ fs) [] rest next new p q same ops =
     absurd (omega (arith, some_ops f (All-head (IsFrame Version2) f fs p), ap length ops, length-append (f.ops ++ ops_of fs) new, length-append f.ops (ops_of fs)))
 new_frames (f ∷ fs) (h ∷ hs) rest next new p q same ops =
-    let first = same_front Version2 f h (bytes_of fs ++ rest) (bytes_of hs ++ next) (All-head (IsFrame Version2) f fs p) (All-head (IsFrame Version2) h hs q)
+    let first = common_prefix Version2 f h (bytes_of fs ++ rest) (bytes_of hs ++ next) (All-head (IsFrame Version2) f fs p) (All-head (IsFrame Version2) h hs q)
     (sym (append_assoc f.bytes (bytes_of fs) rest) ∙ same ∙ append_assoc h.bytes (bytes_of hs) next) in
     new_frames fs hs rest next new (All-tail (IsFrame Version2) f fs p) (All-tail (IsFrame Version2) h hs q) first.rest
     (append_cancel_left f.ops (ops_of fs ++ new) (ops_of hs) (sym (append_assoc f.ops (ops_of fs) new) ∙ ops ∙ ap (λ (l : List Op). l ++ ops_of hs) (sym first.ops)))
@@ -87,7 +87,7 @@ says_new text bytes cursor other before new rest next a b =
     (sym (append_assoc (bytes_of a.starts.found) rest bytes) ∙ ap (λ (t : List ℕ). t ++ bytes) (sym a.starts.split) ∙ same.behind_is ∙ b.starts.split)
     (ap (λ (l : List Op). l ++ new) (sym a.starts.ops_are) ∙ b.starts.ops_are)
 
--- the bytes behind the last whole message
+-- the bytes after the last whole message
 unfoldable rest_of : Next → List ℕ
 rest_of (Goes reading) = reading.rest
 rest_of (Closes reply) = reply
@@ -202,7 +202,7 @@ read_takes limit log text bytes reading before session_text (inr s) (inr said) i
 
 -- a session that goes on was read so
 pub still_read : (session_text : SessionText) (limit : ℕ) (log : List (List ℕ)) (before : List Op) (text : List ℕ) → IsSessionText session_text limit log before text
-    → reply_to_text session_text log ≡ None → ReadSo (log_behind session_text log) text (reading_by session_text text)
+    → reply_to_text session_text log ≡ None → ReadSo (log_after session_text log) text (reading_by session_text text)
 still_read Greets limit log before text is none = inl (is, refl)
 still_read NoGreeting limit log before text is none = absurd (cc none)
 still_read Beyond limit log before text is none = absurd (cc none)

@@ -20,7 +20,7 @@ takes-more limit xs byte a b c h one = takes-append limit xs (byte ∷ []) a b c
 pub grows_on : (a b c : List (List ℕ)) → LogGrows a b → LogGrows b c → LogGrows a c
 grows_on a b c g h = (g.0 ++ h.0, h.1 ∙ ap (λ t. t ++ h.0) g.1 ∙ append_assoc a g.0 h.0)
 
--- the bytes behind the one that closes a session count for nothing
+-- the bytes after the one that closes a session count for nothing
 pub closes_early : (limit : ℕ) (piece : List ℕ) (at : ℕ) (start before : Taken) (log : List (List ℕ)) (reply : List ℕ) → at < length piece
     → TakesAll limit (take at piece) start before
     → TakesOne limit (get_or piece at 0) before.log before.next (record { log = log; next = Closes reply }) → TakesAll limit piece start (record { log = log; next = Closes reply })
@@ -56,7 +56,7 @@ refused_there limit cursor log bytes reading (Ok reply) none apart is =
     (Neither, (λ ops f. none.0 (ops, f), none.1, apart), ap (λ r. record { log = log; next = becomes r reading }) is)
 refused_there limit cursor log bytes reading (Err e) none apart is = is
 
--- the operations of a frame joined, and the bytes behind it begin anew
+-- the operations of a frame joined, and the bytes after it begin anew
 pub frame_there : (limit cursor : ℕ) (old new : List (List ℕ)) (bytes rest : List ℕ) (reply : Option (List ℕ)) → rest ≡ [] → JoinsFrame limit old bytes new [] reply
     → TakesByte limit old (Some cursor) bytes (record { log = new; next = becomes reply (record { cursor = Some cursor; rest = rest }) })
 frame_there limit cursor old new bytes rest reply none h =

@@ -16,7 +16,7 @@ use Rattle.relay_core.specs.Laws.{SessionsByWholeTexts}
 use Rattle.relay_core.specs.Sessions.{becomes}
 use Rattle.relay_core.specs.Texts.{Beyond, Closed, FollowsFrames, Foreign, SessionText, Greets, HasCome, IsSessionText, NoGreeting}
 use Rattle.relay_core.specs.Texts.{OneTooMany, Speaks, StandsInText, Tells, TellsAll}
-use Rattle.relay_core.specs.Texts.{TellsTo, OpenTexts, LogWithTexts, Unfinished, joined_behind, reply_to_text, log_behind, reply_with, texts_behind, text_opened, log_with_ops}
+use Rattle.relay_core.specs.Texts.{TellsTo, OpenTexts, LogWithTexts, Unfinished, joined_after, reply_to_text, log_after, reply_with, texts_after, text_opened, log_with_ops}
 use Rattle.relay_core.proofs.SessionTextLemmas.{reading_by, taken_by}
 use Rattle.relay_core.proofs.StoryLemmas.{Read, ReadSo, read_on, read_takes, still_read}
 use Rattle.relay_core.proofs.JoiningLemmas.{grown}
@@ -71,9 +71,9 @@ module _ (limit : ℕ) (log now : List (List ℕ)) (sessions : Sessions) (texts 
         (get-remove nat_cmp_total texts n q) (get-remove nat_cmp_total sessions n q) tt (later q);
   }
 
-  -- behind a piece
+  -- after a piece
   piece_agrees : (answer : Option (List ℕ)) (text : List ℕ) (reading : SessionReading) → (answer ≡ None → ReadSo now text reading)
-      → Agrees limit now (sessions_after n sessions (becomes answer reading)) (texts_behind n texts text answer)
+      → Agrees limit now (sessions_after n sessions (becomes answer reading)) (texts_after n texts text answer)
   piece_agrees None text reading so = set_agrees text reading (so refl)
   piece_agrees (Some bytes) text reading so = removed_agrees
 
@@ -86,16 +86,16 @@ opened_by limit log sessions texts n agrees None (Some reading) a = absurd a
 opened_by limit log sessions texts n agrees (Some text) None a = absurd a
 opened_by limit log sessions texts n agrees (Some text) (Some reading) a = agrees
 
--- the log behind a text of a form
-outcome_grows : (session_text : SessionText) (log : List (List ℕ)) → length log ≤ length (log_behind session_text log)
+-- the log after a text of a form
+outcome_grows : (session_text : SessionText) (log : List (List ℕ)) → length log ≤ length (log_after session_text log)
 outcome_grows Greets log = omega arith
 outcome_grows NoGreeting log = omega arith
 outcome_grows Beyond log = omega arith
-outcome_grows (Speaks cursor new rest follows) log = omega (arith, grown log new, grown (log_with_ops log new) (joined_behind follows))
+outcome_grows (Speaks cursor new rest follows) log = omega (arith, grown log new, grown (log_with_ops log new) (joined_after follows))
 
 -- what joined of a frame with an operation too many fits
 follows_room : (follows : FollowsFrames) (limit : ℕ) (log : List (List ℕ)) (rest : List ℕ) → length log ≤ limit → StandsInText follows limit log rest
-    → length (log_with_ops log (joined_behind follows)) ≤ limit
+    → length (log_with_ops log (joined_after follows)) ≤ limit
 follows_room Unfinished limit log rest room s = room
 follows_room Closed limit log rest room s = room
 follows_room Foreign limit log rest room s = room
@@ -103,7 +103,7 @@ follows_room (OneTooMany before) limit log rest room s = omega (arith, s.7)
 
 outcome_room : (session_text : SessionText) (limit : ℕ) (log : List (List ℕ)) (before : List Op) (text : List ℕ) → length log ≤ limit
     → IsSessionText session_text limit log before text
-    → length (log_behind session_text log) ≤ limit
+    → length (log_after session_text log) ≤ limit
 outcome_room Greets limit log before text room is = room
 outcome_room NoGreeting limit log before text room is = room
 outcome_room Beyond limit log before text room is = room
@@ -168,15 +168,15 @@ module _ (limit : ℕ) (log : List (List ℕ)) (sessions : Sessions) (texts : Op
       let answer : Option (List ℕ) = reply_to_text session_text log in
       let whole : List ℕ = text ++ bytes in
       let taken : Taken = taken_by session_text log whole in
-      let now : List (List ℕ) = log_behind session_text log in
+      let now : List (List ℕ) = log_after session_text log in
       record {
         log_now = now;
         sessions_now = sessions_after n sessions taken.next;
-        texts_now = texts_behind n texts whole answer;
+        texts_now = texts_after n texts whole answer;
         steps = subst (RelaySteps (relay_of limit log sessions) (Piece n bytes) (after_piece (relay_of limit log sessions) n taken))
             (replies_same n answer (reading_by session_text whole))
             (piece_steps (relay_of limit log sessions) n reading bytes taken found (read_takes limit log text bytes reading before session_text so come is));
-        tells = subst (λ (o : Option (List ℕ)). TellsTo limit (log_texts log texts) n o bytes (log_texts now (texts_behind n texts whole answer)) (reply_with n answer)) (sym some)
+        tells = subst (λ (o : Option (List ℕ)). TellsTo limit (log_texts log texts) n o bytes (log_texts now (texts_after n texts whole answer)) (reply_with n answer)) (sym some)
             (record {
               answer = answer;
               comes = record { before = before; has_come = come; session_text = session_text; is_session_text = is; log_is = refl; answer_is = refl };
@@ -243,7 +243,7 @@ step_from_texts limit log sessions texts agrees (Piece n bytes) new reply h = by
       same_reply = reply_with n (reply_to_text h.comes.session_text log);
       both = piece_both limit log sessions texts agrees n bytes text reading h.comes.before h.comes.session_text some found a h.comes.has_come h.comes.is_session_text;
       reply_is = h.reply_is ∙ ap (reply_with n) h.comes.answer_is;
-      new_is = λ i. record { log = h.comes.log_is i; texts = (h.texts_are ∙ ap (texts_behind n texts (text ++ bytes)) h.comes.answer_is) i };
+      new_is = λ i. record { log = h.comes.log_is i; texts = (h.texts_are ∙ ap (texts_after n texts (text ++ bytes)) h.comes.answer_is) i };
     }
 
 -- a run of a relay is told

@@ -1,5 +1,5 @@
 -- Small texts of sessions, and what they say: each row has the limit, the log, the text that came, the bytes that come,
--- the log behind them, and the answer.
+-- the log after them, and the answer.
 use Rattle.std.proofs.Common.{[], List, ap, arith, drop, inl, inr, refl, sym, take, ℕ, ◌++◌, ◌-◌, ◌<◌, ◌∷◌, ◌≡◌}
 use Rattle.std.specs.Prelude.{None, Some}
 use Rattle.std.specs.Char.{IsScalar}
@@ -58,7 +58,7 @@ closes = record {
   answer_is = refl;
 }
 
--- the cursor 1 is beyond an empty log, and what comes behind it counts for nothing
+-- the cursor 1 is beyond an empty log, and what comes after it counts for nothing
 goes_beyond : ComesToText 1 [] (0x48 ∷ 0 ∷ 0 ∷ []) (0 ∷ 1 ∷ frame A) [] (Some (0x58 ∷ 3 ∷ []))
 goes_beyond = record {
   before = [];

@@ -11,17 +11,17 @@ use Rattle.origin_model.specs.relay.Session.{reply_from, handled}
 use Rattle.origin_model.proofs.SharedLemmas.{all_once, bytes_of, closed_takes, closing_takes, frame_takes, front_takes, ops_of, partly, takes-append}
 use Rattle.op_frame.proofs.ReadingLemmas.{frames_once, no_bytes_are_partial}
 use Rattle.relay_core.specs.Sessions.{becomes}
-use Rattle.relay_core.specs.Texts.{Closed, FollowsFrames, Foreign, IsForeign, OneTooMany, StandsInText, Unfinished, closing_bytes, joined_behind, log_with_ops}
+use Rattle.relay_core.specs.Texts.{Closed, FollowsFrames, Foreign, IsForeign, OneTooMany, StandsInText, Unfinished, closing_bytes, joined_after, log_with_ops}
 use Rattle.relay_core.proofs.JoiningLemmas.{IsRefused, all_or_refused, all_join, one_too_many, with_ops-append}
 
--- bytes are read behind others as they are read with them
+-- bytes are read after others as they are read with them
 pub behind : (limit : ℕ) (xs ys : List ℕ) (start middle after : Taken) → TakesAll limit (xs ++ ys) start after → TakesAll limit xs start middle → TakesAll limit ys middle after
 behind limit [] ys start middle after h i = subst (λ (t : Taken). TakesAll limit ys t after) (sym i) h
 behind limit (x ∷ xs) ys start middle after h i =
     let same : h.0 ≡ i.0 = all_once frames_once limit (x ∷ []) start h.0 i.0 (h.0, h.1, refl) (i.0, i.1, refl) in
     behind limit xs ys i.0 middle after (subst (λ (t : Taken). TakesAll limit (xs ++ ys) t after) same h.2) i.2
 
--- frames that come behind a whole message
+-- frames that come after a whole message
 frames_take : (limit cursor : ℕ) (found : List Framed) (log : List (List ℕ)) (rest : List ℕ) (after : Taken) → All (IsFrame Version2) found
     → length (log_with_ops log (ops_of found)) ≤ limit
     → TakesAll limit rest (session_goes_on (log_with_ops log (ops_of found)) cursor) after → TakesAll limit (bytes_of found ++ rest) (session_goes_on log cursor) after
@@ -38,7 +38,7 @@ frames_take limit cursor (f ∷ found) log rest after are room h =
     (frame_takes f (All-head (IsFrame Version2) f found are) limit cursor log)
     (subst (λ (t : Taken). TakesAll limit (bytes_of found ++ rest) t after) (sym is) more))
 
--- operations that come behind a whole message
+-- operations that come after a whole message
 pub starts_take : (limit cursor : ℕ) (ops : List Op) (log : List (List ℕ)) (messages rest : List ℕ) (after : Taken) → Starts Version2 messages ops rest
     → length (log_with_ops log ops) ≤ limit
     → TakesAll limit rest (session_goes_on (log_with_ops log ops) cursor) after → TakesAll limit messages (session_goes_on log cursor) after
@@ -59,10 +59,10 @@ front_goes limit cursor log rest p = by p.more p.lacks p.front
     by [] lacks e = absurd (omega (arith, lacks))
     by (z ∷ zs) lacks e = front_takes p.framed p.is_frame limit cursor log [] rest z zs e
 
--- what the log is, and what becomes of the session, behind the frames of a text
+-- what the log is, and what becomes of the session, after the frames of a text
 abbrev pub outcome : FollowsFrames → (cursor : ℕ) → List (List ℕ) → (rest : List ℕ) → Taken
 outcome follows cursor log rest =
-    record { log = log_with_ops log (joined_behind follows); next = becomes (closing_bytes follows log cursor) (record { cursor = Some cursor; rest = rest }) }
+    record { log = log_with_ops log (joined_after follows); next = becomes (closing_bytes follows log cursor) (record { cursor = Some cursor; rest = rest }) }
 
 -- what follows the frames of a text
 pub rest_takes : (follows : FollowsFrames) (limit cursor : ℕ) (log : List (List ℕ)) (rest : List ℕ) → StandsInText follows limit log rest
@@ -90,7 +90,7 @@ rest_takes (OneTooMany before) limit cursor log rest s =
     (takes-append limit s.2 s.3 (session_goes_on log cursor) after after (subst (TakesAll limit s.2 (session_goes_on log cursor)) is (frame_takes framed s.4 limit cursor log))
     (closed_takes limit s.3 now (refusal_message 2)))
 
--- bytes behind a whole message, as they were read
+-- bytes after a whole message, as they were read
 pub record Reads (limit cursor : ℕ) (log : List (List ℕ)) (bytes : List ℕ) (after : Taken) : Type 0 where
   pub new : List Op
   pub rest : List ℕ
@@ -170,7 +170,7 @@ module _ (limit cursor : ℕ) (after : Taken) where
       (rest ++ byte ∷ [], bytes, record { before = rest; byte = byte; bytes_are = refl; was_front = partial; is_none = f }, refl)
       (all_once frames_once limit bytes (session_refused log 1) after (session_refused log 1) h (closed_takes limit bytes log (refusal_message 1)))
 
--- bytes behind a whole message and a front of the next one
+-- bytes after a whole message and a front of the next one
 pub reads : (limit cursor : ℕ) (after : Taken) (bytes : List ℕ) (log : List (List ℕ)) (rest : List ℕ) → length log ≤ limit → IsPartial Version2 rest
     → TakesAll limit bytes (partly log cursor rest) after
     → Reads limit cursor log (rest ++ bytes) after

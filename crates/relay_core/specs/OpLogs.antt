@@ -19,7 +19,7 @@ LogsAreOfOperations =
     (limit : ℕ) (events : List Event) (relay : Relay) → IsRelayState limit events relay
     → ((ops : List Op) × IsLogOf relay.log ops) × (length relay.log ≤ limit)
 
--- further events put frames behind those of the log, and take none away
+-- further events put frames after those of the log, and take none away
 abbrev pub LogsGrow : Type 0
 LogsGrow =
     (limit : ℕ) (before : List Event) (old new : Relay) (events : List Event) (replies : List (Option Reply))

@@ -13,9 +13,9 @@ abbrev pub reading_of : Session → SessionReading
 reading_of (Greeting bytes) = record { cursor = None; rest = bytes }
 reading_of (Messages cursor bytes) = record { cursor = Some cursor; rest = bytes }
 
--- behind a whole message
-abbrev pub behind_message : ℕ → SessionReading
-behind_message cursor = record { cursor = Some cursor; rest = [] }
+-- after a whole message
+abbrev pub after_message : ℕ → SessionReading
+after_message cursor = record { cursor = Some cursor; rest = [] }
 
 -- the session is closed with a reply, or goes on
 abbrev pub becomes : Option (List ℕ) → SessionReading → Next

@@ -52,7 +52,7 @@ pub data FollowsFrames : Type 0 where
   Foreign : FollowsFrames
   OneTooMany : (joined : List Op) → FollowsFrames
 
--- what stands behind the byte that shows it counts for nothing
+-- what stands after the byte that shows it counts for nothing
 abbrev pub StandsInText : FollowsFrames → (limit : ℕ) → List (List ℕ) → List ℕ → Type 0
 StandsInText Unfinished limit log rest = IsPartial Version2 rest
 StandsInText Closed limit log rest = (behind : List ℕ) × (rest ≡ closing ++ behind)
@@ -81,14 +81,14 @@ IsSessionText (Speaks cursor new rest follows) limit log before text =
     × StandsInText follows limit (log_with_ops log new) rest
 
 -- what joined of the frame with an operation too many stays
-abbrev pub joined_behind : FollowsFrames → List Op
-joined_behind (OneTooMany joined) = joined
-joined_behind follows = []
+abbrev pub joined_after : FollowsFrames → List Op
+joined_after (OneTooMany joined) = joined
+joined_after follows = []
 
 -- the log gains the new operations
-abbrev pub log_behind : SessionText → List (List ℕ) → List (List ℕ)
-log_behind (Speaks cursor new rest follows) log = log_with_ops (log_with_ops log new) (joined_behind follows)
-log_behind session_text log = log
+abbrev pub log_after : SessionText → List (List ℕ) → List (List ℕ)
+log_after (Speaks cursor new rest follows) log = log_with_ops (log_with_ops log new) (joined_after follows)
+log_after session_text log = log
 
 -- the bytes with which a reply closes the session, where one does
 abbrev pub closing_bytes : FollowsFrames → List (List ℕ) → (cursor : ℕ) → Option (List ℕ)
@@ -109,14 +109,14 @@ abbrev pub HasCome : (text : List ℕ) → List Op → Type 0
 HasCome text before = (IsGreetingFront text × (before ≡ []))
     ⊎ ((cursor : ℕ) × (rest : List ℕ) × SaysCursor text cursor before rest × IsPartial Version2 rest)
 
--- bytes come to the text of an open session: the log behind them, and the bytes with which the session is closed, where it is
+-- bytes come to the text of an open session: the log after them, and the bytes with which the session is closed, where it is
 pub record ComesToText (limit : ℕ) (log : List (List ℕ)) (text bytes : List ℕ) (new_log : List (List ℕ))
     (answer : Option (List ℕ)) : Type 0 where
   pub before : List Op
   pub has_come : HasCome text before
   pub session_text : SessionText
   pub is_session_text : IsSessionText session_text limit log before (text ++ bytes)
-  pub log_is : new_log ≡ log_behind session_text log
+  pub log_is : new_log ≡ log_after session_text log
   pub answer_is : answer ≡ reply_to_text session_text log
 
 -- the texts of the open sessions by their numbers
@@ -136,10 +136,10 @@ no_log_texts = record { log = []; texts = finite.empty }
 abbrev pub text_opened : ℕ → OpenTexts → OpenTexts
 text_opened n texts = if finite.contains_key texts n then texts else finite.insert texts n []
 
--- the texts behind a piece: the one that goes on has its bytes, and the one that is closed is gone
-abbrev pub texts_behind : ℕ → OpenTexts → (text : List ℕ) → Option (List ℕ) → OpenTexts
-texts_behind n texts text None = finite.insert texts n text
-texts_behind n texts text (Some answer) = finite.remove texts n
+-- the texts after a piece: the one that goes on has its bytes, and the one that is closed is gone
+abbrev pub texts_after : ℕ → OpenTexts → (text : List ℕ) → Option (List ℕ) → OpenTexts
+texts_after n texts text None = finite.insert texts n text
+texts_after n texts text (Some answer) = finite.remove texts n
 
 -- the reply to a session that is closed with these bytes
 abbrev pub reply_with : ℕ → Option (List ℕ) → Option Reply
@@ -150,7 +150,7 @@ pub record TellsPiece (limit : ℕ) (old : LogWithTexts) (n : ℕ) (text bytes :
     (reply : Option Reply) : Type 0 where
   pub answer : Option (List ℕ)
   pub comes : ComesToText limit old.log text bytes new.log answer
-  pub texts_are : new.texts ≡ texts_behind n old.texts (text ++ bytes) answer
+  pub texts_are : new.texts ≡ texts_after n old.texts (text ++ bytes) answer
   pub reply_is : reply ≡ reply_with n answer
 
 -- a piece of a session that is unknown or closed changes nothing, and has no reply

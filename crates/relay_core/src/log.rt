@@ -18,7 +18,7 @@ pub(crate) fn has_frame<B: BuildHasher>(log: &Log<B>, frame: &[u8]) -> bool
     log.contains(frame)
 }
 
-/// One operation more, at the end. After want of memory the log is as before.
+/// One operation more, at the end. After an allocation failure the log is as before.
 pub(crate) fn add<B: BuildHasher>(
     alloc: Global,
     log: &mut Log<B>,

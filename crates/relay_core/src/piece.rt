@@ -36,7 +36,8 @@ fn comes_to(
     Ok((None, replies))
 }
 
-/// What a piece of an open session comes to. After want of memory the log may have some of the operations that came.
+/// What a piece of an open session comes to. After an allocation failure the log may have some of the operations that
+/// came.
 fn take<B: BuildHasher>(
     alloc: Global,
     limit: u32,
@@ -57,7 +58,7 @@ fn take<B: BuildHasher>(
     comes_to(alloc, n, session, reply)
 }
 
-/// A piece of a session. After want of memory the log and the sessions are as before.
+/// A piece of a session. After an allocation failure the log and the sessions are as before.
 pub(crate) fn take_piece<B: BuildHasher>(
     alloc: Global,
     limit: u32,

@@ -14,7 +14,7 @@ use std::collections::BTreeMap;
 use std::hash::BuildHasher;
 use std::marker::Model;
 
-/// Want of memory, with the event handed back.
+/// An allocation failure, with the event handed back.
 #[derive(Debug, Drop)]
 pub struct NoMemoryFor {
     pub event: Event,
@@ -73,7 +73,8 @@ impl<B: BuildHasher> Relay<B> {
         self.log.len() as u32
     }
 
-    /// What the event does, and the reply to it. After want of memory the relay is unchanged, and the event comes back.
+    /// What the event does, and the reply to it. After an allocation failure the relay is unchanged, and the event
+    /// comes back.
     pub fn step(&mut self, event: Event) -> Result<Vec<Reply>, NoMemoryFor>
         ensures ok { IfOk result (λ replies. Stepped self.old event self.new replies.items) }
         ensures state { OnOk result

@@ -15,7 +15,7 @@ use std::collections::BTreeMap;
 pub(crate) enum Session {
     /// These bytes of the greeting came.
     Greeting(Greeting),
-    /// Behind the greeting: its cursor, and the bytes since the last whole message.
+    /// After the greeting: its cursor, and the bytes since the last whole message.
     Messages(u32, PartialFrame),
 }
 
@@ -40,7 +40,8 @@ impl Session {
 /// The open sessions.
 pub(crate) type Sessions = BTreeMap<u32, Session>;
 
-/// One session more, of whose text nothing came; an open one stays as it is. After want of memory all are as before.
+/// One session more, of whose text nothing came; an open one stays as it is. After an allocation failure all are as
+/// before.
 pub(crate) fn open(sessions: &mut Sessions, n: u32) -> Result<(), NoMemory>
     ensures ok { OnOk result (sessions_in sessions.new ≡ session_opened n (sessions_in sessions.old)) }
     ensures err { OnErr result (sessions_in sessions.new ≡ sessions_in sessions.old) }

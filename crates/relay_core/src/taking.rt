@@ -40,7 +40,7 @@ fn is_closing(front: &[u8], byte: u8) -> bool
     front.is_empty() && byte == CLOSING
 }
 
-/// One byte more behind the greeting.
+/// One byte more after the greeting.
 fn take_message<B: BuildHasher>(
     alloc: Global,
     limit: u32,
@@ -98,8 +98,8 @@ fn take_byte<B: BuildHasher>(
     }
 }
 
-/// The bytes of a piece, one after another, up to the one that closes the session. After want of memory the log may
-/// have some of the operations that came.
+/// The bytes of a piece, one after another, up to the one that closes the session. After an allocation failure the log
+/// may have some of the operations that came.
 pub(crate) fn take_all<B: BuildHasher>(
     alloc: Global,
     limit: u32,

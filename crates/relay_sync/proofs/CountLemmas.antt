@@ -14,7 +14,7 @@ use Rattle.outer_ports.proofs.TellLemmas.{same_tells}
 pub dock_still : (P : Type 0) (u : DockView) → DockRisesFor P u u
 dock_still P u = record { tells = λ t. t; specified_no_fault = λ t none. refl }
 
--- calls that did not fail, and others behind them
+-- calls that did not fail, and others after them
 pub dock_then : (P Q : Type 0) (u v w : DockView) → (P → ⊥) → DockRisesFor P u v → DockRisesFor Q v w → DockRisesFor Q u w
 dock_then P Q u v w none s t =
     record {
@@ -27,7 +27,7 @@ dock_then P Q u v w none s t =
 pub dock_so : (P Q : Type 0) (u v : DockView) → (P → Q) → DockRisesFor P u v → DockRisesFor Q u v
 dock_so P Q u v so s = record { tells = s.tells; specified_no_fault = λ reported none. s.specified_no_fault reported (λ p. none (so p)) }
 
--- behind calls that did not fail
+-- after calls that did not fail
 pub dock_on : (Q : Type 0) (u v w : DockView) → DockRisesFor ⊥ u v → DockRisesFor Q v w → DockRisesFor Q u w
 dock_on Q u v w s t = dock_then ⊥ Q u v w (λ e. e) s t
 
@@ -63,7 +63,7 @@ wire_then P Q u v w none s t =
 pub wire_so : (P Q : Type 0) (u v : WireView) → (P → Q) → WireRisesFor P u v → WireRisesFor Q u v
 wire_so P Q u v so s = record { tells = s.tells; specified_no_fault = λ reported none. s.specified_no_fault reported (λ p. none (so p)) }
 
--- behind calls that did not fail
+-- after calls that did not fail
 pub wire_on : (Q : Type 0) (u v w : WireView) → WireRisesFor ⊥ u v → WireRisesFor Q v w → WireRisesFor Q u w
 wire_on Q u v w s t = wire_then ⊥ Q u v w (λ e. e) s t
 

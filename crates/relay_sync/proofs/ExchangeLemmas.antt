@@ -25,7 +25,7 @@ use Rattle.origin_model.specs.taking.Taking.{Accepted, Again, Answer, Conflict, 
 use Rattle.origin_model.specs.taking.Taking.{intake, intake_counted, no_counts, nothing_held, tally_from}
 use Rattle.origin_model.proofs.SharedLemmas.{consistent_part, Covers, fold_covers, has-append, kept_suffice, nothing_covers, nothing_settled, part_at_end, part_in_front}
 use Rattle.origin_model.proofs.SharedLemmas.{parts_join}
-use Rattle.op_frame.proofs.ReadingLemmas.{same_front}
+use Rattle.op_frame.proofs.ReadingLemmas.{common_prefix}
 use Rattle.relay_core.specs.OpLogs.{IsLogOf}
 use Rattle.relay_core.proofs.OpLogLemmas.{logs_are_of_operations}
 use Rattle.replica_core.specs.Keeping.{TakesIn}
@@ -49,7 +49,7 @@ of_each P (op ∷ ops) x all m = elim (or_cases (op_eq op x) (has_op ops x) m) [
 same_op : (a b : Op) → HasFrame a → HasFrame b → frame a ≡ frame b → a ≡ b
 same_op a b p q e =
     let own : Op → Framed = λ op. record { bytes = frame op; ops = op ∷ [] } in
-    let one = same_front Version2 (own a) (own b) [] [] (record { item = Single a; is_item = p; bytes_are = refl; ops_are = refl })
+    let one = common_prefix Version2 (own a) (own b) [] [] (record { item = Single a; is_item = p; bytes_are = refl; ops_are = refl })
     (record { item = Single b; is_item = q; bytes_are = refl; ops_are = refl })
     (ap (λ (l : List ℕ). l ++ []) e) in
     let ops : a ∷ [] ≡ b ∷ [] = one.ops in

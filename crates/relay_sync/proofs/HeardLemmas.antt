@@ -72,7 +72,7 @@ module _ (before middle after : OpsTaking) (found : List Framed) (are : All (IsF
   heard = bytes_of found
 
   module _ (same : after ≡ middle) where
-    -- an end behind the frames
+    -- an end after the frames
     comes_to : (bytes rest : List ℕ) (end : ReplyEnd) → take STREAM_LIMIT bytes ≡ heard ++ rest → EndsReply (length bytes) (length heard) rest end → HearsTo bytes before after end
     comes_to bytes rest end split ends = record {
       ops = ops_of found;
@@ -96,7 +96,7 @@ module _ (before middle after : OpsTaking) (found : List Framed) (are : All (IsF
         regroup a b x c = simp append_assoc
 
   module _ (bytes more : List ℕ) (within : length heard + length bytes ≤ STREAM_LIMIT) where
-    -- the bytes with what stands behind them up to the limit
+    -- the bytes with what stands after them up to the limit
     abbrev on : List ℕ
     on = take (STREAM_LIMIT - length (heard ++ bytes)) more
 
@@ -123,7 +123,7 @@ module _ (before middle after : OpsTaking) (found : List Framed) (are : All (IsF
         let all : (heard ++ bytes) ++ more ≡ heard ++ bytes = ap (λ (l : List ℕ). (heard ++ bytes) ++ l) none ∙ append-nil (heard ++ bytes) in
         comes_to same ((heard ++ bytes) ++ more) bytes (Cut at) (take_all STREAM_LIMIT ((heard ++ bytes) ++ more) size ∙ all) (is, size, front)
 
-    -- the operations of the frame behind them were taken in up to one that is one too many
+    -- the operations of the frame after them were taken in up to one that is one too many
     comes_to_many : (most : ℕ) → TakesNotAll (feed_fault.TooMany most) middle after bytes → HearsTo ((heard ++ bytes) ++ more) before after EndsTooMany
     comes_to_many most met =
         let last = met.1 in
@@ -186,15 +186,15 @@ reply_same bytes before after others end other p q =
       same.1,
     )
 
--- the same behind what was said
-pub heard_behind : (said old new : WireView) (before after : OpsTaking) (count : ℕ) → old.left ≡ said.left → HearsReply old new before after count
+-- the same after what was said
+pub heard_after : (said old new : WireView) (before after : OpsTaking) (count : ℕ) → old.left ≡ said.left → HearsReply old new before after count
     → HeardTo said.left before after (Ended count)
-heard_behind said old new before after count same h =
+heard_after said old new before after count same h =
     subst (λ (specified : Option (List ℕ)). HeardTo specified before after (Ended count)) same (reply_heard old new before after count h)
 
-pub up_to_behind : (fault : SyncFault) (said old new : WireView) (before after : OpsTaking) → old.left ≡ said.left → HearsPartly fault old new before after
+pub up_to_after : (fault : SyncFault) (said old new : WireView) (before after : OpsTaking) → old.left ≡ said.left → HearsPartly fault old new before after
     → HeardUpTo fault said.left before after
-up_to_behind fault said old new before after same h =
+up_to_after fault said old new before after same h =
     subst (λ (specified : Option (List ℕ)). HeardUpTo fault specified before after) same (reply_up_to fault old new before after h)
 
 -- an answer that the bytes tell comes exactly where they do
@@ -261,9 +261,9 @@ pub hears_exactly : (result : Result Synced SyncFault) (said old new : WireView)
     → IfSome said.left (AnswersByReply result before)
 hears_exactly (Ok synced) said old new before replica kept same ok err =
     heard_exactly said.left before (record { replica = replica; counts = synced.tally; kept = kept }) synced.cursor
-    (heard_behind said old new before (record { replica = replica; counts = synced.tally; kept = kept }) synced.cursor same ok)
+    (heard_after said old new before (record { replica = replica; counts = synced.tally; kept = kept }) synced.cursor same ok)
 hears_exactly (Err fault) said old new before replica kept same ok err =
     let after : OpsTaking = record { replica = replica; counts = err.0; kept = kept } in
     let h : HearsPartly fault old new before after = err.1 in
-    up_to_exactly said.left fault before after (up_to_behind fault said old new before after same h)
+    up_to_exactly said.left fault before after (up_to_after fault said old new before after same h)
     (λ end is. fault_is fault end old new h.middle after (length (bytes_of h.found)) h.bytes is h.stops) (decides fault)

@@ -20,7 +20,7 @@ use Rattle.relay_sync.specs.declared.syncing.SyncFault.{SyncFault}
 use Rattle.relay_sync.specs.declared.syncing.SyncFault.TheVariants.{BadReply, CutShort, NoMemory, RelayRefused, TooLong, TooMany, WireFault}
 use Rattle.fugue_ids.proofs.JoinLemmas.{prepend_twice}
 
--- bytes behind bytes
+-- bytes after bytes
 pub hears-append : (u v w : WireView) (a b : List ℕ) → HeardBytes u v a → HeardBytes v w b → HeardBytes u w (a ++ b)
 hears-append u v w a b s t = record {
   heard = s.heard ∙ ap (prepend_known a) t.heard ∙ prepend_twice a b w.left;
@@ -31,7 +31,7 @@ hears-append u v w a b s t = record {
   counts_no_fault = λ sure. t.counts_no_fault (ap (λ (r : Option ℕ). is_some r) s.room ∙ sure) ∙ s.counts_no_fault sure;
 }
 
--- a fault behind bytes that were heard
+-- a fault after bytes that were heard
 pub stops_in : (fault : SyncFault) (u v w : WireView) (place : ℕ) (bytes : List ℕ) → u.faults ≤ v.faults → v.room ≡ u.room → StopsIn fault v w place bytes
     → StopsIn fault u w place bytes
 stops_in WireFault u v w place bytes le room s = (s.0, omega (arith, le, s.1), λ sure. s.2 (ap (λ (r : Option ℕ). is_some r) room ∙ sure))
@@ -103,8 +103,8 @@ leads (End count) whole behind is = ap (λ (w : List ℕ). get_or (w ++ behind) 
 leads (Refusal code) whole behind is = ap (λ (w : List ℕ). get_or (w ++ behind) 0 0) is.1
 
 -- a message that begins with 58 has a code, and one that begins with neither 55 nor 58 is a frame
-pub code_behind : (message : Message) (whole behind : List ℕ) (code : ℕ) (more : List ℕ) → IsMessage message whole → 0x58 ∷ code ∷ more ≡ whole ++ behind → IsCode code
-code_behind message whole behind code more is split = by_kind message is (subst (λ (l : List ℕ). IsLead message (get_or l 0 0)) (sym split) (leads message whole behind is))
+pub code_after : (message : Message) (whole behind : List ℕ) (code : ℕ) (more : List ℕ) → IsMessage message whole → 0x58 ∷ code ∷ more ≡ whole ++ behind → IsCode code
+code_after message whole behind code more is split = by_kind message is (subst (λ (l : List ℕ). IsLead message (get_or l 0 0)) (sym split) (leads message whole behind is))
   where
     by_kind : (message : Message) → IsMessage message whole → IsLead message 0x58 → IsCode code
     by_kind (Operations ops) is lead = absurd (omega (arith, lead))
@@ -134,8 +134,8 @@ broken_code code none = record {
   byte = code;
   bytes_are = refl;
   was_front = refusal_front;
-  no_message = λ message is. none (code_behind message (0x58 ∷ code ∷ []) [] code [] is refl);
-  no_front = λ p. none (code_behind p.message p.whole [] code p.more p.is_message (sym p.front ∙ sym (append-nil p.whole)));
+  no_message = λ message is. none (code_after message (0x58 ∷ code ∷ []) [] code [] is refl);
+  no_front = λ p. none (code_after p.message p.whole [] code p.more p.is_message (sym p.front ∙ sym (append-nil p.whole)));
 }
 
 -- what the bytes are by the grammar of replies

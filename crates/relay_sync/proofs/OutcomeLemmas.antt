@@ -18,10 +18,10 @@ use Rattle.op_frame.specs.IntakeOutcomes.{TooMany as StreamMany}
 use Rattle.op_frame.proofs.CodeLemmas.{same_fronts}
 use Rattle.op_frame.proofs.ComesLemmas.{comes_once, comes_some}
 use Rattle.op_frame.proofs.FrontLemmas.{Front, bad_there, front_of, front_there as part_there, frame_there}
-use Rattle.op_frame.proofs.ReadingLemmas.{begins_not_partial, framed_some, same_front, starts_more}
+use Rattle.op_frame.proofs.ReadingLemmas.{begins_not_partial, framed_some, common_prefix, starts_more}
 use Rattle.relay_sync.specs.Outcomes.{BeginsBytes, IsNoMessage, EndsReply, EndsTaking, ReadsReply, ReplyComes, ReplyEnd, Ended, Refused as EndsRefused, Bad, Cut, TooLong, TooMany}
 use Rattle.relay_sync.specs.Replies.{End, IsCode, IsMessage, IsMessageFront, Message, Operations, Refusal, ending}
-use Rattle.relay_sync.proofs.HearingLemmas.{IsLead, code_behind, frame_front, leads, no_bytes, number_front, other_is_frame, other_is_partial, refusal_front}
+use Rattle.relay_sync.proofs.HearingLemmas.{IsLead, code_after, frame_front, leads, no_bytes, number_front, other_is_frame, other_is_partial, refusal_front}
 use Rattle.fugue_ids.proofs.DecideLemmas.{both_decided, Decided, decided_by, equal_decided, less_decided}
 
 -- at one place stands one message
@@ -34,7 +34,7 @@ same_message m n a b r s p q is = by_kind m n p q (leads m a r p) (subst (λ (l 
   where
     by_kind : (m n : Message) → IsMessage m a → IsMessage n b → IsLead m (get_or (a ++ r) 0 0) → IsLead n (get_or (a ++ r) 0 0) → SameMessage m n r s
     by_kind (Operations ops) (Operations others) p q f g =
-        let same = same_front Version2 (record { bytes = a; ops = ops }) (record { bytes = b; ops = others }) r s p q is in
+        let same = common_prefix Version2 (record { bytes = a; ops = ops }) (record { bytes = b; ops = others }) r s p q is in
         record { message = ap Operations same.ops; behind = same.rest }
     by_kind (End count) (End number) p q f g =
         let whole : ending ∷ (p.0 ++ r) ≡ ending ∷ (q.0 ++ s) = ap (λ (l : List ℕ). l ++ r) (sym p.3) ∙ is ∙ ap (λ (l : List ℕ). l ++ s) q.3 in
@@ -86,8 +86,8 @@ refusal_stand (code ∷ more) =
     by_code : Decided (IsCode code) → Stand (0x58 ∷ code ∷ more)
     by_code (inl is) = message_there (Refusal code) (record { whole = refusal_message code; is_message = (is, refl); behind = more; split = refl })
     by_code (inr none) = none_there (record {
-      none_begins = λ message p. none (code_behind message p.whole p.behind code more p.is_message p.split);
-      no_front = λ p. none (code_behind p.message p.whole [] code (more ++ p.more) p.is_message (sym p.front ∙ sym (append-nil p.whole)));
+      none_begins = λ message p. none (code_after message p.whole p.behind code more p.is_message p.split);
+      no_front = λ p. none (code_after p.message p.whole [] code (more ++ p.more) p.is_message (sym p.front ∙ sym (append-nil p.whole)));
     })
 
 frame_stand : (x : ℕ) (xs : List ℕ) → x ≢ 0x55 → x ≢ 0x58 → Stand (x ∷ xs)
@@ -157,7 +157,7 @@ module _ (size place : ℕ) (rest : List ℕ) where
   is_long (inl fits) long = absurd (omega (arith, fits, long))
   is_long (inr longer) long = refl
 
-  -- what stands behind the frames tells the end
+  -- what stands after the frames tells the end
   end_is : (end : ReplyEnd) (fits : (size ≤ STREAM_LIMIT) ⊎ (STREAM_LIMIT < size)) (stand : Stand rest) → EndsReply size place rest end → end ≡ end_by place fits stand
   end_is (Ended count) fits stand e = by_message (End count) fits stand e
   end_is (EndsRefused code) fits stand e = by_message (Refusal code) fits stand e
@@ -202,7 +202,7 @@ module _ (size : ℕ) (r s : List ℕ) where
   same_frames [] (h ∷ hs) p q end other are too e f is = absurd (not_ended size p r end h.ops e (first_there h hs r s too is))
   same_frames (g ∷ fs) [] p q end other are too e f is = absurd (not_ended size q s other g.ops f (first_there g fs s r are (sym is)))
   same_frames (g ∷ fs) (h ∷ hs) p q end other are too e f is =
-      let one = same_front Version2 g h (bytes_of fs ++ r) (bytes_of hs ++ s) (All-head (IsFrame Version2) g fs are) (All-head (IsFrame Version2) h hs too)
+      let one = common_prefix Version2 g h (bytes_of fs ++ r) (bytes_of hs ++ s) (All-head (IsFrame Version2) g fs are) (All-head (IsFrame Version2) h hs too)
       (sym (append_assoc g.bytes (bytes_of fs) r) ∙ is ∙ append_assoc h.bytes (bytes_of hs) s) in
       let behind = same_frames fs hs p q end other (All-tail (IsFrame Version2) g fs are) (All-tail (IsFrame Version2) h hs too) e f one.rest in
       record { bytes = λ i. one.bytes i ++ behind.bytes i; ops = λ i. one.ops i ++ behind.ops i; rest = behind.rest }
@@ -214,7 +214,7 @@ module _ (size : ℕ) (r s : List ℕ) where
   first_frames [] hs q other are too f is = (ops_of hs, refl)
   first_frames (g ∷ fs) [] q other are too f is = absurd (not_ended size q s other g.ops f (first_there g fs s r are (sym is)))
   first_frames (g ∷ fs) (h ∷ hs) q other are too f is =
-      let one = same_front Version2 g h (bytes_of fs ++ r) (bytes_of hs ++ s) (All-head (IsFrame Version2) g fs are) (All-head (IsFrame Version2) h hs too)
+      let one = common_prefix Version2 g h (bytes_of fs ++ r) (bytes_of hs ++ s) (All-head (IsFrame Version2) g fs are) (All-head (IsFrame Version2) h hs too)
       (sym (append_assoc g.bytes (bytes_of fs) r) ∙ is ∙ append_assoc h.bytes (bytes_of hs) s) in
       let behind = first_frames fs hs q other (All-tail (IsFrame Version2) g fs are) (All-tail (IsFrame Version2) h hs too) f one.rest in
       (behind.0, (λ i. sym one.ops i ++ behind.1 i) ∙ sym (append_assoc g.ops (ops_of fs) behind.0))
@@ -289,7 +289,7 @@ module _ (hold most : ℕ) (start : Held) (bytes : List ℕ) where
       begins_not_partial Version2 rest (record { bytes = p.whole; ops = ops }) p.behind (record { is_frame = p.is_message; split = p.split }) ends.2
   no_frame_at rest place (EndsInBadFrame k) ops ends p = ends.1.no_frame (record { bytes = p.whole; ops = ops }) p.behind (record { is_frame = p.is_message; split = p.split })
 
-  -- the frames of a reply, and the rest behind them
+  -- the frames of a reply, and the rest after them
   reading : (ops : List Op) (end : StreamEnd) → Reads Version2 (take STREAM_LIMIT bytes) ops end → (other : ReplyEnd) × ReadsReply bytes ops other
   reading ops end r = by_stand (stand_of r.rest) (fits_or_not (length bytes))
     where

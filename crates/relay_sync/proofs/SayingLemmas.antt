@@ -1,4 +1,4 @@
--- A text that goes out on a wire, piece by piece, behind the dialling.
+-- A text that goes out on a wire, piece by piece, after the dialling.
 use Rattle.std.proofs.Common.{[], List, arith, drop, length, take, ℕ, ◌+◌, ◌-◌, ◌∙◌, ◌≡◌}
 use Rattle.std.specs.Prelude.{Err, IfSome, None, Ok, OnOk, Option, Result, Some}
 use Rattle.fugue_ids.specs.Outs.{IsSure, WritesBytes}

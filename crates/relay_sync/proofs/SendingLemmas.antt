@@ -8,10 +8,10 @@ use Rattle.fugue_ids.proofs.JoinLemmas.{call_grows, took_none}
 use Rattle.origin_model.specs.declared.relay.Reply.{Reply}
 use Rattle.outer_ports.specs.declared.dock.DockStep.{DockStep}
 use Rattle.outer_ports.specs.declared.dock.MemStep.{MemStep}
-use Rattle.outer_ports.specs.dock.Docks.{DockView, EndsSession, Sends, Takes, ended_behind, out_to}
+use Rattle.outer_ports.specs.dock.Docks.{DockView, EndsSession, Sends, Takes, ended_after, out_to}
 use Rattle.outer_ports.specs.dock.Steps.{with_bytes}
 use Rattle.relay_sync.specs.Sending.{GivesSteps, LastsFor, Replied, RepliedPartly, SendsText}
-use Rattle.relay_sync.specs.Serving.{bytes_to, closed_by, ends_behind, Spends}
+use Rattle.relay_sync.specs.Serving.{bytes_to, closed_by, ends_after, Spends}
 use Rattle.relay_sync.specs.declared.serving.ServeFault.TheVariants.{DockFault, NoMemory}
 
 -- a step that was taken
@@ -44,7 +44,7 @@ sends_grow {E} {T} x u v w session piece at n s t = record {
 pub sure_is : (P : ℕ → Type 0) (specified : Option ℕ) (n : ℕ) → specified ≡ Some n → IfSome specified P → P n
 sure_is P specified n is holds = subst (λ (o : Option ℕ). IfSome o P) is holds
 
-pub ends_none : (ends : Option ℕ) → ends ≡ ends_behind [] ends
+pub ends_none : (ends : Option ℕ) → ends ≡ ends_after [] ends
 ends_none None = refl
 ends_none (Some n) = ap Some (omega arith)
 
@@ -91,7 +91,7 @@ pub replied_on : {E T : Type 0} (x : T) (u v : DockView) (reply : Reply) → rep
 replied_on {E} {T} x u v reply on s = record {
   sent = each Took u v reply s.writes.ok (λ other apart. took_none (out_to other u) (out_to other v) (s.others other apart).0 (s.others other apart).1);
   ended = rw on (s.ended ∙ grows_none u.ended);
-  ended_at = s.ended_at ∙ ap (λ (b : Bool). if b then ended_behind u.ended_at (v.sent reply.session) else u.ended_at) (sym on);
+  ended_at = s.ended_at ∙ ap (λ (b : Bool). if b then ended_after u.ended_at (v.sent reply.session) else u.ended_at) (sym on);
   ends = rw on (s.ends ∙ ends_none u.ends);
   nothing_taken = s.nothing_taken;
   listens = s.listens;
@@ -107,8 +107,8 @@ replied_ended {E} {T} {F} {S} x y u v w reply closes s t = record {
       (record { written = t.nothing_sent.sent reply.session ∙ s.writes.ok.written; room = t.nothing_sent.room reply.session ∙ s.writes.ok.room })
       (λ other apart. took_none (out_to other u) (out_to other w) (t.nothing_sent.sent other ∙ (s.others other apart).0) (t.nothing_sent.room other ∙ (s.others other apart).1));
   ended = rw closes (t.ended ∙ ap (option_map (λ ended. ended ++ reply.session ∷ [])) s.ended);
-  ended_at = t.ended_at ∙ (λ i. ended_behind (s.ended_at i) (sym (t.nothing_sent.sent reply.session) i))
-      ∙ ap (λ (b : Bool). if b then ended_behind u.ended_at (w.sent reply.session) else u.ended_at) (sym closes);
+  ended_at = t.ended_at ∙ (λ i. ended_after (s.ended_at i) (sym (t.nothing_sent.sent reply.session) i))
+      ∙ ap (λ (b : Bool). if b then ended_after u.ended_at (w.sent reply.session) else u.ended_at) (sym closes);
   ends = rw closes (t.ends ∙ ap (option_map (λ ends. ends - 1)) s.ends);
   nothing_taken = record { taken = t.nothing_taken.taken ∙ s.nothing_taken.taken; coming = t.nothing_taken.coming ∙ s.nothing_taken.coming };
   listens = t.listens ∙ s.listens;

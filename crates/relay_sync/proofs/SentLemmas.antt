@@ -16,7 +16,7 @@ use Rattle.std.proofs.lemmas.List.Elements.{All-append, All-cons, All-contains, 
 use Rattle.std.proofs.lemmas.List.Folds.{list_any-append}
 use Rattle.fugue_ids.specs.declared.op.Op.{Op}
 use Rattle.fugue_ids.proofs.IdentifierLemmas.{nat_at-other, nat_at-same}
-use Rattle.fugue_ids.proofs.ListLemmas.{all_before, all_behind, all_from_filter, all_weaker_at}
+use Rattle.fugue_ids.proofs.ListLemmas.{all_before, all_after, all_from_filter, all_weaker_at}
 use Rattle.fugue_ids.proofs.OpLemmas.{op_eq-refl}
 use Rattle.fugue_ids.specs.Ops.{op_eq}
 use Rattle.origin_model.specs.declared.grammar.Grammar.TheVariants.{Version2}
@@ -30,10 +30,10 @@ use Rattle.origin_model.specs.relay.Session.{Closing, Frame, Front, closing, gre
 use Rattle.origin_model.specs.taking.Closure.{given_by, given_by_all, taker_state}
 use Rattle.origin_model.proofs.SharedLemmas.{bytes_of, has-append, hello, one_kind, ops_of}
 use Rattle.op_frame.proofs.CodeLemmas.{same_fronts}
-use Rattle.op_frame.proofs.ReadingLemmas.{begins_not_partial, framed_some, frames_once, same_front}
+use Rattle.op_frame.proofs.ReadingLemmas.{begins_not_partial, framed_some, frames_once, common_prefix}
 use Rattle.relay_core.specs.Texts.{Beyond, Closed, FollowsFrames, Foreign, Greets, HasCome, IsSessionText, IsGreetingFront, NoGreeting, OneTooMany, SaysCursor, SessionText, Speaks}
-use Rattle.relay_core.specs.Texts.{StandsInText, Tells, TellsAll, TellsPiece, TellsTo, OpenTexts, LogWithTexts, Unfinished, log_behind, no_log_texts, reply_to_text, reply_with}
-use Rattle.relay_core.specs.Texts.{texts_behind, with_op, log_with_ops}
+use Rattle.relay_core.specs.Texts.{StandsInText, Tells, TellsAll, TellsPiece, TellsTo, OpenTexts, LogWithTexts, Unfinished, log_after, no_log_texts, reply_to_text, reply_with}
+use Rattle.relay_core.specs.Texts.{texts_after, with_op, log_with_ops}
 use Rattle.relay_core.proofs.TellingLemmas.{sessions_by_whole_texts}
 use Rattle.relay_sync.specs.Exchanges.{AreInterleaved, IsHonestRequest, NoneRefused, Sending, beginners, events_of, gone_with, is_whole, session_of}
 use Rattle.relay_sync.specs.Saying.{request_for}
@@ -69,7 +69,7 @@ left_of [] found rest left p q e = record { later = found; are = q; sent_are = r
 left_of (f ∷ fs) [] rest left p q e =
     absurd (frame_not_closing f (All-head (IsFrame Version2) f fs p) (bytes_of fs ++ (rest ++ left)) [] (sym (append_assoc f.bytes (bytes_of fs) (rest ++ left)) ∙ e))
 left_of (f ∷ fs) (h ∷ hs) rest left p q e =
-    let one = same_front Version2 f h (bytes_of fs ++ (rest ++ left)) (bytes_of hs ++ closing) (All-head (IsFrame Version2) f fs p) (All-head (IsFrame Version2) h hs q)
+    let one = common_prefix Version2 f h (bytes_of fs ++ (rest ++ left)) (bytes_of hs ++ closing) (All-head (IsFrame Version2) f fs p) (All-head (IsFrame Version2) h hs q)
     (sym (append_assoc f.bytes (bytes_of fs) (rest ++ left)) ∙ e ∙ append_assoc h.bytes (bytes_of hs) closing) in
     let l = left_of fs hs rest left (All-tail (IsFrame Version2) f fs p) (All-tail (IsFrame Version2) h hs q) one.rest in
     record {
@@ -79,7 +79,7 @@ left_of (f ∷ fs) (h ∷ hs) rest left p q e =
       bytes_are = l.bytes_are;
     }
 
--- behind a proper front of a frame something is left
+-- after a proper front of a frame something is left
 something_left : (later : List Framed) (rest left : List ℕ) → All (IsFrame Version2) later → IsPartial Version2 rest → rest ++ left ≡ bytes_of later ++ closing → 0 < length left
 something_left later rest (byte ∷ left) are p e = omega arith
 something_left [] rest [] are p e =
@@ -88,7 +88,7 @@ something_left (f ∷ later) rest [] are p e =
     absurd (begins_not_partial Version2 rest f (bytes_of later ++ closing)
     (record { is_frame = All-head (IsFrame Version2) f later are; split = sym (append-nil rest) ∙ e ∙ append_assoc f.bytes (bytes_of later) closing }) p)
 
--- behind the closing byte no frame is left, and no byte
+-- after the closing byte no frame is left, and no byte
 none_later : (later : List Framed) (behind left : List ℕ) → All (IsFrame Version2) later → (closing ++ behind) ++ left ≡ bytes_of later ++ closing
     → (ops_of later ≡ []) × (length left ≡ 0)
 none_later [] behind left are e = (refl, omega (arith, ap length e, length-append (closing ++ behind) left))
@@ -105,14 +105,14 @@ same_said [] (h ∷ hs) r s p q x y e =
 same_said (f ∷ fs) [] r s p q x y e =
     absurd (begins_not_partial Version2 s f (bytes_of fs ++ r) (record { is_frame = All-head (IsFrame Version2) f fs p; split = sym e ∙ append_assoc f.bytes (bytes_of fs) r }) y)
 same_said (f ∷ fs) (h ∷ hs) r s p q x y e =
-    let one = same_front Version2 f h (bytes_of fs ++ r) (bytes_of hs ++ s) (All-head (IsFrame Version2) f fs p) (All-head (IsFrame Version2) h hs q)
+    let one = common_prefix Version2 f h (bytes_of fs ++ r) (bytes_of hs ++ s) (All-head (IsFrame Version2) f fs p) (All-head (IsFrame Version2) h hs q)
     (sym (append_assoc f.bytes (bytes_of fs) r) ∙ e ∙ append_assoc h.bytes (bytes_of hs) s) in
     let behind = same_said fs hs r s (All-tail (IsFrame Version2) f fs p) (All-tail (IsFrame Version2) h hs q) x y one.rest in
     λ i. one.ops i ++ behind i
 
--- what stands behind the same greeting and a number of four bytes
-behind_number : (n k m l : List ℕ) → length n ≡ 4 → length k ≡ 4 → greeting ∷ (n ++ m) ≡ greeting ∷ (k ++ l) → m ≡ l
-behind_number n k m l four too e = let tails : n ++ m ≡ k ++ l = cc e in (same_fronts n k m l (four ∙ sym too) tails).1
+-- what stands after the same greeting and a number of four bytes
+after_number : (n k m l : List ℕ) → length n ≡ 4 → length k ≡ 4 → greeting ∷ (n ++ m) ≡ greeting ∷ (k ++ l) → m ≡ l
+after_number n k m l four too e = let tails : n ++ m ≡ k ++ l = cc e in (same_fronts n k m l (four ∙ sym too) tails).1
 
 -- a text with a whole greeting is longer than a front of one
 said_long : (text : List ℕ) (cursor : ℕ) (ops : List Op) (rest : List ℕ) → SaysCursor text cursor ops rest → 5 ≤ length text
@@ -130,7 +130,7 @@ same_come text a b (inr x) (inl y) = absurd (omega (arith, said_long text x.0 a 
 same_come text a b (inr x) (inr y) =
     let s : SaysCursor text x.0 a x.1 = x.2 in
     let t : SaysCursor text y.0 b y.1 = y.2 in
-    let same : s.messages ≡ t.messages = behind_number s.number t.number s.messages t.messages s.four_bytes t.four_bytes (sym s.text_is ∙ t.text_is) in
+    let same : s.messages ≡ t.messages = after_number s.number t.number s.messages t.messages s.four_bytes t.four_bytes (sym s.text_is ∙ t.text_is) in
     s.starts.ops_are ∙ same_said s.starts.found t.starts.found x.1 y.1 s.starts.are_frames t.starts.are_frames x.3 y.3 (sym s.starts.split ∙ same ∙ t.starts.split)
     ∙ sym t.starts.ops_are
 
@@ -159,7 +159,7 @@ module _ (s : Sending) (honest : IsHonestRequest s) where
       ap (λ t. greeting ∷ t) (sym (append_assoc says.number says.messages left)) ∙ ap (λ (t : List ℕ). t ++ left) (sym says.text_is) ∙ e ∙ own_request.bytes_are
       ∙ append_assoc (hello s.cursor) (bytes_of found) closing in
       let messages : says.messages ++ left ≡ bytes_of found ++ closing =
-      behind_number says.number (to_be_bytes w32 s.cursor) (says.messages ++ left) (bytes_of found ++ closing) says.four_bytes four same in
+      after_number says.number (to_be_bytes w32 s.cursor) (says.messages ++ left) (bytes_of found ++ closing) says.four_bytes four same in
       let l = left_of says.starts.found found rest left says.starts.are_frames own_request.are_frames
       (sym (append_assoc (bytes_of says.starts.found) rest left) ∙ ap (λ (t : List ℕ). t ++ left) (sym says.starts.split) ∙ messages) in
       record {
@@ -329,10 +329,10 @@ module _ (sendings : List Sending) (honest : All IsHonestRequest sendings) where
     taken = All-weaker (IsTaken log) (IsTaken now) (λ s t. taken_later log now s more t) a.done a.taken;
   })
 
-  -- the session behind those that are done is one of all
+  -- the session after those that are done is one of all
   now_among : (n : ℕ) (done : List Sending) (now : Sending) (todo : List Sending) → with_number n ≡ done ++ now ∷ todo → (P : Sending → Type 0) → All P sendings → P now
   now_among n done now todo is P all =
-      All-head P now todo (all_behind P done (now ∷ todo) (subst (All P) is (All-filter (λ (s : Sending). nat_eq s.number n) P sendings all)))
+      All-head P now todo (all_after P done (now ∷ todo) (subst (All P) is (All-filter (λ (s : Sending). nat_eq s.number n) P sendings all)))
 
   -- a session is opened
   opened_along : (n : ℕ) (log : List (List ℕ)) (text : Option (List ℕ)) (mine : List Event) → Along n log text (Opened n ∷ mine) → (text ≡ None) × Along n log (Some []) mine
@@ -427,7 +427,7 @@ module _ (sendings : List Sending) (honest : All IsHonestRequest sendings) where
     })
 
     outcome_comes : (outcome : SessionText) (limit : ℕ) → IsSessionText outcome limit log before text → IsNoRefusal (reply_with n (reply_to_text outcome log))
-        → Comes n log text mine (log_behind outcome log) (reply_to_text outcome log)
+        → Comes n log text mine (log_after outcome log) (reply_to_text outcome log)
     outcome_comes Greets limit front good = record {
       along = goes_on log (λ own t. t) (omega (arith, ap length request, length-append text (to_say pieces now), long_request now w, front_short text front))
           (λ ops c. subst (All (IsLogged log)) (sym (same_come text ops [] c (inl (front, refl)))) (All-nil (IsLogged log)));
@@ -452,12 +452,12 @@ module _ (sendings : List Sending) (honest : All IsHonestRequest sendings) where
 
         new_sent : All (λ op. has_op sent op ≡ true) new
         new_sent =
-            all_behind (λ op. has_op sent op ≡ true) before new
+            all_after (λ op. has_op sent op ≡ true) before new
             (all_before (λ op. has_op sent op ≡ true) (before ++ new) (ops_of l.later)
             (subst (All (λ op. has_op sent op ≡ true)) l.sent_are (now_among n done now todo is (GaveOf sent) (all_gave sendings))))
 
         by : (follows : FollowsFrames) → StandsInText follows limit log_now rest → IsNoRefusal (reply_with n (reply_to_text (Speaks cursor new rest follows) log))
-            → Comes n log text mine (log_behind (Speaks cursor new rest follows) log) (reply_to_text (Speaks cursor new rest follows) log)
+            → Comes n log text mine (log_after (Speaks cursor new rest follows) log) (reply_to_text (Speaks cursor new rest follows) log)
         by Unfinished partial good = record {
           along = goes_on log_now more (something_left l.later rest (to_say pieces now) l.are partial l.bytes_are)
               (λ ops come. subst (All (IsLogged log_now)) (sym (same_come text ops (before ++ new) come (inr (cursor, rest, c.0, partial)))) said_logged);
@@ -521,13 +521,13 @@ module _ (sendings : List Sending) (honest : All IsHonestRequest sendings) where
   inserted_other : (texts : OpenTexts) (k : ℕ) (text : List ℕ) (n : ℕ) → k ≢ n → finite.get (finite.insert texts k text) n ≡ finite.get texts n
   inserted_other texts k text n other = get-insert nat_cmp_total texts k text n ∙ ap (λ b. cond b (Some text) (finite.get texts n)) (nat_at-other n k other)
 
-  behind_here : (texts : OpenTexts) (n : ℕ) (text : List ℕ) (answer : Option (List ℕ)) → finite.get (texts_behind n texts text answer) n ≡ text_left text answer
-  behind_here texts n whole None = inserted_here texts n whole
-  behind_here texts n whole (Some bytes) = get-remove nat_cmp_total texts n n ∙ ap (λ b. cond b None (finite.get texts n)) (nat_at-same n)
+  after_here : (texts : OpenTexts) (n : ℕ) (text : List ℕ) (answer : Option (List ℕ)) → finite.get (texts_after n texts text answer) n ≡ text_left text answer
+  after_here texts n whole None = inserted_here texts n whole
+  after_here texts n whole (Some bytes) = get-remove nat_cmp_total texts n n ∙ ap (λ b. cond b None (finite.get texts n)) (nat_at-same n)
 
-  behind_other : (texts : OpenTexts) (k : ℕ) (text : List ℕ) (answer : Option (List ℕ)) (n : ℕ) → k ≢ n → finite.get (texts_behind k texts text answer) n ≡ finite.get texts n
-  behind_other texts k whole None n other = inserted_other texts k whole n other
-  behind_other texts k whole (Some bytes) n other = get-remove nat_cmp_total texts k n ∙ ap (λ b. cond b None (finite.get texts n)) (nat_at-other n k other)
+  after_other : (texts : OpenTexts) (k : ℕ) (text : List ℕ) (answer : Option (List ℕ)) (n : ℕ) → k ≢ n → finite.get (texts_after k texts text answer) n ≡ finite.get texts n
+  after_other texts k whole None n other = inserted_other texts k whole n other
+  after_other texts k whole (Some bytes) n other = get-remove nat_cmp_total texts k n ∙ ap (λ b. cond b None (finite.get texts n)) (nat_at-other n k other)
 
   -- an event goes on so
   step_on : (limit : ℕ) (old new : LogWithTexts) (event : Event) (events : List Event) (reply : Option Reply) → Tells limit old event new reply → IsNoRefusal reply
@@ -572,13 +572,13 @@ module _ (sendings : List Sending) (honest : All IsHonestRequest sendings) where
               let c = outcome_comes n old.log text mine b.done b.now b.todo b.sessions bytes pieces rest asks b.taken h.comes.before logged h.comes.session_text
               limit h.comes.is_session_text
               allowed in
-              let log_is : log_behind h.comes.session_text old.log ≡ new.log = sym h.comes.log_is in
+              let log_is : log_after h.comes.session_text old.log ≡ new.log = sym h.comes.log_is in
               let left : finite.get new.texts n ≡ text_left (text ++ bytes) (reply_to_text h.comes.session_text old.log) =
-              ap (λ u. finite.get u n) h.texts_are ∙ behind_here old.texts n (text ++ bytes) h.answer ∙ ap (text_left (text ++ bytes)) h.comes.answer_is in
+              ap (λ u. finite.get u n) h.texts_are ∙ after_here old.texts n (text ++ bytes) h.answer ∙ ap (text_left (text ++ bytes)) h.comes.answer_is in
               others_on old new (Piece n bytes) events on (λ own l. ap (λ k. is_logged k own) (sym log_is) ∙ c.more own l) (subst (All (IsOfSent sent)) log_is (c.within on.within))
-              (λ k other. ap (λ u. finite.get u k) h.texts_are ∙ behind_other old.texts n (text ++ bytes) h.answer k other)
+              (λ k other. ap (λ u. finite.get u k) h.texts_are ∙ after_other old.texts n (text ++ bytes) h.answer k other)
               (subst (λ l. Along n l (finite.get new.texts n) mine) log_is
-              (subst (λ (o : Option (List ℕ)). Along n (log_behind h.comes.session_text old.log) o mine) (sym left) c.along))
+              (subst (λ (o : Option (List ℕ)). Along n (log_after h.comes.session_text old.log) o mine) (sym left) c.along))
 
       by : (text : Option (List ℕ)) → finite.get old.texts n ≡ text → Along n old.log text (Piece n bytes ∷ mine) → TellsTo limit old n text bytes new reply → IsOn new events
       by None is (inl a) h =
@@ -603,9 +603,9 @@ module _ (sendings : List Sending) (honest : All IsHonestRequest sendings) where
       closed_on : Along n old.log None mine → IsOn new events
       closed_on a =
           others_on old new (Gone n) events on (λ own l. ap (λ k. is_logged k own) log_is ∙ l) (subst (All (IsOfSent sent)) (sym log_is) on.within)
-          (λ k other. ap (λ u. finite.get u k) texts_are ∙ behind_other old.texts n [] (Some []) k other)
+          (λ k other. ap (λ u. finite.get u k) texts_are ∙ after_other old.texts n [] (Some []) k other)
           (subst (λ l. Along n l (finite.get new.texts n) mine) (sym log_is)
-          (subst (λ (o : Option (List ℕ)). Along n old.log o mine) (sym (ap (λ u. finite.get u n) texts_are ∙ behind_here old.texts n [] (Some []))) a))
+          (subst (λ (o : Option (List ℕ)). Along n old.log o mine) (sym (ap (λ u. finite.get u n) texts_are ∙ after_here old.texts n [] (Some []))) a))
 
       not_gone : (pieces : List (List ℕ)) (todo : List Sending) → Gone n ∷ mine ≡ pieces_to n pieces ++ flat_map events_of todo → IsOn new events
       not_gone [] [] e = cc e
@@ -648,7 +648,7 @@ module _ (sendings : List Sending) (honest : All IsHonestRequest sendings) where
     within = All-nil (IsOfSent sent);
   }
 
-  -- behind all of them
+  -- after all of them
   all_done : (n : ℕ) (log : List (List ℕ)) (text : Option (List ℕ)) → Along n log text [] → All (IsTaken log) (with_number n)
   all_done n log text (inl a) = by a.pieces a.todo a.sessions a.events_are
     where

@@ -1,4 +1,4 @@
--- Turns of serving one behind the other, whole and up to a fault.
+-- Turns of serving one after the other, whole and up to a fault.
 use Rattle.std.proofs.Common.{[], List, ap, append_assoc, arith, length, inl, inr, length-append, refl, subst, sym, take, ℕ, ◌+◌, ◌++◌, ◌<◌, ◌≤◌, ◌∙◌, ◌∷◌, ◌-◌, ◌≡◌, ◌≢◌, ◌⊎◌}
 use Rattle.std.specs.Prelude.{IfSome, None, Option, Some, map, option_map}
 use Rattle.std.specs.Io.KnownBytes.{append_known}
@@ -14,7 +14,7 @@ use Rattle.origin_model.proofs.SharedLemmas.{runs-append, step_runs}
 use Rattle.outer_ports.specs.dock.Docks.{DockView, SendsNothing, TakesNothing, out_to}
 use Rattle.outer_ports.specs.declared.dock.MemStep.{MemStep}
 use Rattle.relay_sync.specs.Sending.{GivesSteps, LastsFor, Replied, RepliedPartly}
-use Rattle.relay_sync.specs.Serving.{HaveCome, ended_in, ended_with, GaveSteps, HasRoomFor, Lasts, NoneAfter, Serves, ServesPartly, ServingStops, Spends, ends_behind, ServedStep}
+use Rattle.relay_sync.specs.Serving.{HaveCome, ended_in, ended_with, GaveSteps, HasRoomFor, Lasts, NoneAfter, Serves, ServesPartly, ServingStops, Spends, ends_after, ServedStep}
 use Rattle.relay_sync.specs.Serving.{TurnStops, bytes_to, closed_by, closed_in, count_over, event_of, over_after, replies_of, sent_to, steps_of}
 use Rattle.relay_sync.specs.declared.serving.ServeFault.{ServeFault}
 use Rattle.relay_sync.specs.declared.serving.ServeFault.TheVariants.{DockFault, NoMemory, TooLong}
@@ -29,15 +29,15 @@ comes-append : (a b c : Option (List MemStep)) (xs ys : List MemStep) → HaveCo
 comes-append a b c [] ys h i = subst (λ s. HaveCome s ys c) h i
 comes-append a b c (x ∷ xs) ys h i = (h.0, h.1, comes-append h.0 b c xs ys h.2 i)
 
--- a front behind a whole part
-front_behind : (u v w : OutView) (a b : List ℕ) → Took u v a → TookFront v w b → TookFront u w (a ++ b)
-front_behind u v w a b s t = record {
+-- a front after a whole part
+front_after : (u v w : OutView) (a b : List ℕ) → Took u v a → TookFront v w b → TookFront u w (a ++ b)
+front_after u v w a b s t = record {
   count = length a + t.count;
   within = omega (arith, t.within, length-append a b);
   took = subst (Took u w) (sym (take-append-add a b t.count)) (took_joins u v w a (take t.count b) s t.took);
 }
 
--- steps one behind the other
+-- steps one after the other
 pub gave-append : (a b c : DockView) (xs ys : List MemStep) → GaveSteps a b xs → GaveSteps b c ys → GaveSteps a c (xs ++ ys)
 gave-append a b c xs ys h i =
     record { taken = i.taken ∙ ap (option_map (λ steps. steps ++ ys)) h.taken ∙ grows_twice a.taken xs ys; comes = comes-append a.coming b.coming c.coming xs ys h.comes i.comes }
@@ -64,7 +64,7 @@ sent-append session xs ys = flat_map-append (λ (t : ServedStep). bytes_to sessi
 closed-append : (xs ys : List ServedStep) → closed_in (xs ++ ys) ≡ closed_in xs ++ closed_in ys
 closed-append xs ys = flat_map-append (λ (t : ServedStep). closed_by t.reply) xs ys
 
-ends_twice : (ends : Option ℕ) (a b : List ℕ) → ends_behind b (ends_behind a ends) ≡ ends_behind (a ++ b) ends
+ends_twice : (ends : Option ℕ) (a b : List ℕ) → ends_after b (ends_after a ends) ≡ ends_after (a ++ b) ends
 ends_twice None a b = refl
 ends_twice (Some n) a b = ap Some (omega (arith, length-append a b))
 
@@ -79,7 +79,7 @@ module _ (x : DockView) (all a b : ℕ → List ℕ) (closed c d : List ℕ) (pa
     ends = (h.ends.0, h.ends.1, omega (arith, h.ends.2, ap length ends_are, length-append c d));
   }
 
-  room_then : (y : DockView) → ((session : ℕ) → y.room session ≡ room_after (length (a session)) (x.room session)) → y.ends ≡ ends_behind c x.ends → HasRoomFor y b d
+  room_then : (y : DockView) → ((session : ℕ) → y.room session ≡ room_after (length (a session)) (x.room session)) → y.ends ≡ ends_after c x.ends → HasRoomFor y b d
   room_then y rooms ends = record {
     room = λ session.
         let r = h.room session in (
@@ -87,7 +87,7 @@ module _ (x : DockView) (all a b : ℕ → List ℕ) (closed c d : List ℕ) (pa
           rooms session ∙ ap (room_after (length (a session))) r.1,
           omega (arith, r.2, ap length (parts session), length-append (a session) (b session)),
         );
-    ends = (h.ends.0 - length c, ends ∙ ap (ends_behind c) h.ends.1, omega (arith, h.ends.2, ap length ends_are, length-append c d));
+    ends = (h.ends.0 - length c, ends ∙ ap (ends_after c) h.ends.1, omega (arith, h.ends.2, ap length ends_are, length-append c d));
   }
 
 lasts_first : (x : DockView) (us vs : List ServedStep) → Lasts x (us ++ vs) → Lasts x us
@@ -106,10 +106,10 @@ lasts_reply x y step reply g lasts =
     (λ session. append-nil (bytes_to session reply)) (append-nil (closed_by reply)) lasts y (λ session. (sent_after x y g.nothing_sent session).room) (g.ends ∙ ends_none x.ends)
 
 -- calls before which no fault was counted
-spends_behind : (fault : ServeFault) (more : List MemStep) (x y z : DockView) → y.faults ≡ x.faults → Spends fault more y z → Spends fault more x z
-spends_behind DockFault more x y z same s = s
-spends_behind TooLong more x y z same s = s ∙ same
-spends_behind NoMemory more x y z same s = s ∙ same
+spends_after : (fault : ServeFault) (more : List MemStep) (x y z : DockView) → y.faults ≡ x.faults → Spends fault more y z → Spends fault more x z
+spends_after DockFault more x y z same s = s
+spends_after TooLong more x y z same s = s ∙ same
+spends_after NoMemory more x y z same s = s ∙ same
 
 spends_none : (fault : ServeFault) (more : List MemStep) (x y : DockView) → fault ≢ DockFault → y.faults ≡ x.faults → Spends fault more x y
 spends_none DockFault more x y other same = absurd (other refl)
@@ -120,7 +120,7 @@ known_none : (known : Option (List ℕ)) → known ≡ append_known known []
 known_none None = refl
 known_none (Some xs) = ap Some (sym (append-nil xs))
 
--- turns behind turns, by what was sent in those before
+-- turns after turns, by what was sent in those before
 ended-append : (sent : ℕ → Option (List ℕ)) (counts : Option (List ℕ)) (us vs : List ServedStep)
     → ended_in sent counts (us ++ vs) ≡ ended_in (λ session. append_known (sent session) (sent_to session us)) (ended_in sent counts us) vs
 ended-append sent counts [] vs = λ i. ended_in (λ session. known_none (sent session) i) counts vs
@@ -143,7 +143,7 @@ serves_none relay dock = record {
   counts_no_fault = λ h. refl;
 }
 
--- turns behind turns
+-- turns after turns
 pub serves-append : (a b c : Relay) (x y z : DockView) (us vs : List ServedStep) → Serves a b x y us → Serves b c y z vs → Serves a c x z (us ++ vs)
 serves-append a b c x y z us vs h i = record {
   runs = runs-turns a b c us vs h.runs i.runs;
@@ -152,7 +152,7 @@ serves-append a b c x y z us vs h i = record {
       (took_joins (out_to session x) (out_to session y) (out_to session z) (sent_to session us) (sent_to session vs) (h.sent session) (i.sent session));
   ended = rw (closed-append us vs) (i.ended ∙ ap (option_map (λ ended. ended ++ closed_in vs)) h.ended ∙ grows_twice x.ended (closed_in us) (closed_in vs));
   ended_at = i.ended_at ∙ (λ j. ended_in (λ session. (h.sent session).written j) (h.ended_at j) vs) ∙ sym (ended-append x.sent x.ended_at us vs);
-  ends = rw (closed-append us vs) (i.ends ∙ ap (ends_behind (closed_in vs)) h.ends ∙ ends_twice x.ends (closed_in us) (closed_in vs));
+  ends = rw (closed-append us vs) (i.ends ∙ ap (ends_after (closed_in vs)) h.ends ∙ ends_twice x.ends (closed_in us) (closed_in vs));
   listens = i.listens ∙ h.listens;
   later = omega (arith, h.later, i.later);
   counts_no_fault = λ lasts. i.counts_no_fault (lasts_then a b x y us vs h lasts) ∙ h.counts_no_fault (lasts_first x us vs lasts);
@@ -168,7 +168,7 @@ partly-append fault a b c x y z us vs h i = record {
   gave = rw (turns-append us vs, append_assoc (steps_of us) (steps_of vs) i.more) (gave-append x y z (steps_of us) (steps_of vs ++ i.more) h.gave i.gave);
   sent = λ session.
       rw (sent-append session us vs)
-      (front_behind (out_to session x) (out_to session y) (out_to session z) (sent_to session us) (sent_to session vs) (h.sent session) (i.sent session));
+      (front_after (out_to session x) (out_to session y) (out_to session z) (sent_to session us) (sent_to session vs) (h.sent session) (i.sent session));
   ended = record {
     count = length (closed_in us) + i.ended.count;
     ended = rw (closed-append us vs, take-append-add (closed_in us) (closed_in vs) i.ended.count)
@@ -176,7 +176,7 @@ partly-append fault a b c x y z us vs h i = record {
   };
   listens = i.listens ∙ h.listens;
   later = omega (arith, h.later, i.later);
-  counts_no_fault = λ lasts. spends_behind fault i.more x y z (h.counts_no_fault (lasts_first x us vs lasts)) (i.counts_no_fault (lasts_then a b x y us vs h lasts));
+  counts_no_fault = λ lasts. spends_after fault i.more x y z (h.counts_no_fault (lasts_first x us vs lasts)) (i.counts_no_fault (lasts_then a b x y us vs h lasts));
 }
 
 front_all : (v w : OutView) (bytes : List ℕ) → Took v w bytes → TookFront v w bytes
@@ -225,7 +225,7 @@ turn_serves a b x y z step reply g sure s r = record {
   ended = rw (append-nil (closed_by reply)) (r.ended ∙ ap (option_map (λ ended. ended ++ closed_by reply)) g.ended);
   ended_at = r.ended_at ∙ (λ j. ended_with
       (λ session. ((r.sent session).written ∙ ap (λ (known : Option (List ℕ)). append_known known (bytes_to session reply)) (g.nothing_sent.sent session)) j) reply (g.ended_at j));
-  ends = rw (append-nil (closed_by reply)) (r.ends ∙ ap (ends_behind (closed_by reply)) g.ends);
+  ends = rw (append-nil (closed_by reply)) (r.ends ∙ ap (ends_after (closed_by reply)) g.ends);
   listens = r.listens ∙ g.listens;
   later = omega (arith, g.later, r.later);
   counts_no_fault = λ lasts. r.counts_no_fault (lasts_reply x y step reply g lasts) ∙ sure_is (λ ends. y.faults ≡ x.faults) x.ends lasts.ends.0 lasts.ends.1 sure;
@@ -242,7 +242,7 @@ turn_partly fault a b x y z step reply g sure s r = record {
   gave = gave-append x y z (step ∷ []) [] g.gave (gave_none y z r.nothing_taken);
   sent = λ session.
       rw (append-nil (bytes_to session reply))
-      (front_behind (out_to session x) (out_to session y) (out_to session z) [] (bytes_to session reply) (sent_after x y g.nothing_sent session) (r.sent session));
+      (front_after (out_to session x) (out_to session y) (out_to session z) [] (bytes_to session reply) (sent_after x y g.nothing_sent session) (r.sent session));
   ended = record {
     count = r.ended.count;
     ended = rw (append-nil (closed_by reply))
@@ -277,7 +277,7 @@ reply_stops fault a b x y z step reply g sure s r = record {
   none_begun = λ lasts is. absurd (r.sure (lasts_reply x y step reply g lasts) is);
 }
 
--- or behind it
+-- or after it
 pub turn_stops : (fault : ServeFault) (a b : Relay) (x y : DockView) (turn : ServedStep) → fault ≢ DockFault → Serves a b x y (turn ∷ []) → TurnStops fault a b x y
 turn_stops fault a b x y turn other h =
     record { turns = turn ∷ []; partly = whole_partly fault a b x y (turn ∷ []) other h; few = (let f : 1 + 0 ≤ 1 = omega arith in f); none_begun = λ lasts is. absurd (other is) }

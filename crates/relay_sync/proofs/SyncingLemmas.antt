@@ -26,7 +26,7 @@ use Rattle.relay_sync.specs.declared.syncing.SyncFault.{SyncFault}
 use Rattle.relay_sync.specs.declared.syncing.SyncFault.TheVariants.{BadReply, CutShort, NoMemory, RelayRefused, TooLong, TooMany, WireFault}
 use Rattle.relay_sync.proofs.HearingLemmas.{hears-append, stops_behind, stops_in}
 
--- operations behind others
+-- operations after others
 pub takes-append : (start now next : OpsTaking) (a b : List Op) → TakesIn start now a → TakesIn now next b → TakesIn start next (a ++ b)
 takes-append start now next a b s t =
     let hold : ℕ = start.replica.hold in
@@ -114,7 +114,7 @@ pub is_more : (answer : Option ℕ) (u v : WireView) (before after : OpsTaking) 
 is_more None u v before after place heard none one = one
 is_more (Some count) u v before after place heard none one = absurd (none count refl)
 
--- the rest of a message behind its first byte
+-- the rest of a message after its first byte
 pub whole_first : (message : Message) (u v w : WireView) (first byte place heard : ℕ) → HeardBytes u v (first ∷ []) → first ≡ byte → Whole message v w place heard (byte ∷ [])
     → Whole message u w place heard []
 whole_first message u v w first byte place heard h is whole = record {
@@ -176,7 +176,7 @@ first_op (Typed run) is = by_text run.text is.text.some
     by_text [] some = absurd (omega (arith, some))
     by_text (ch ∷ text) some = (_, _, refl)
 
--- none of the frame's operations was taken in for want of memory
+-- none of the frame's operations was taken in for lack of memory
 pub none_taken : (start : OpsTaking) (frame : List ℕ) (ops : List Op) → IsMessage (Operations ops) frame → TakesNotAll feed_fault.NoMemory start start frame
 none_taken start frame ops is =
     let first = first_op is.item is.is_item in (
@@ -240,7 +240,7 @@ stops_before start now next frame given more op feed_fault.NoMemory is takes lef
   ],
 )
 
--- nothing was said for want of memory
+-- nothing was said for lack of memory
 pub fails_at_once : (wire : WireView) (start : OpsTaking) (port cursor : ℕ) → FailsToAsk NoMemory wire wire start start port cursor
 fails_at_once wire start port cursor = record {
   said = record { count = 0; within = omega arith; took = took_none (out_of wire) (out_of wire) refl refl };

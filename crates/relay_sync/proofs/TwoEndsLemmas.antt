@@ -12,7 +12,7 @@ use Rattle.std.proofs.lemmas.Nat.{from_be_bytes-to_be_bytes_4}
 use Rattle.fugue_ids.specs.declared.limits.TheConstants.{STREAM_LIMIT}
 use Rattle.fugue_ids.specs.declared.op.Op.{Op}
 use Rattle.fugue_ids.specs.declared.op.Op.TheVariants.{Delete, Note, Section, Text}
-use Rattle.fugue_ids.proofs.ListLemmas.{all_before, all_behind}
+use Rattle.fugue_ids.proofs.ListLemmas.{all_before, all_after}
 use Rattle.origin_model.specs.declared.grammar.Grammar.TheVariants.{Version2}
 use Rattle.origin_model.specs.frames.Frames.{Framed, HasFrame, IsFrame, Reads, Whole, frame, single_frames}
 use Rattle.origin_model.specs.frames.Framings.{IsWritten, frames}
@@ -51,7 +51,7 @@ pub reply_reads : (log : List (List ℕ)) (ops : List Op) (cursor : ℕ) → IsL
 reply_reads log ops cursor is few =
     let own : List (List ℕ) → List ℕ = flat_map (λ f. f) in
     let some : List Op = drop cursor ops in
-    let have : All HasFrame some = all_behind HasFrame (take cursor ops) some (subst (All HasFrame) (sym (take-append-drop cursor ops)) is.have_frames) in
+    let have : All HasFrame some = all_after HasFrame (take cursor ops) some (subst (All HasFrame) (sym (take-append-drop cursor ops)) is.have_frames) in
     let r : Reads Version2 (single_frames some) some Whole = singles_read Version2 some have in
     let same : own (drop cursor log) ≡ single_frames some =
     ap (λ l. own (drop cursor l)) is.frames_are ∙ ap own (drop-map frame cursor ops) ∙ flat_map-map (λ (f : List ℕ). f) frame some in
@@ -85,14 +85,14 @@ replies_are_read limit events relay small state =
     record { ops = l.0.0; is_log = l.0.1; reads = λ cursor within. reply_reads relay.log l.0.0 cursor l.0.1 (omega (arith, l.1, small)) }
 
 -- a log with operations, and the session closed since one found it full
-abbrev refused_behind : List (List ℕ) → Taken
-refused_behind log = session_refused log 2
+abbrev refused_after : List (List ℕ) → Taken
+refused_after log = session_refused log 2
 
--- what whole frames behind a whole message come to: all of their operations join, or one finds the log full
+-- what whole frames after a whole message come to: all of their operations join, or one finds the log full
 abbrev FramesCome : (limit cursor : ℕ) → (log : List (List ℕ)) → (ops : List Op) → (after : Taken) → Type 0
 FramesCome limit cursor log ops after =
     ((length (log_with_ops log ops) ≤ limit) × (after ≡ partly (log_with_ops log ops) cursor []))
-    ⊎ ((r : IsRefused limit log ops) × (after ≡ refused_behind (log_with_ops log r.before)))
+    ⊎ ((r : IsRefused limit log ops) × (after ≡ refused_after (log_with_ops log r.before)))
 
 -- the same with operations that joined before
 come_later : (limit cursor : ℕ) (log : List (List ℕ)) (xs ys : List Op) (after : Taken) → FramesCome limit cursor (log_with_ops log xs) ys after
@@ -112,7 +112,7 @@ come_later limit cursor log xs ys after (inr f) =
         lacks = ap (λ l. is_logged l (frame r.op)) joins ∙ r.lacks;
         full = ap length joins ∙ r.full;
       },
-      f.1 ∙ ap refused_behind (sym joins),
+      f.1 ∙ ap refused_after (sym joins),
     )
 
 frames_come : (limit cursor : ℕ) (found : List Framed) (log : List (List ℕ)) → All (IsFrame Version2) found → length log ≤ limit
@@ -132,7 +132,7 @@ frames_come limit cursor (f ∷ found) log are room =
             come_later limit cursor log f.ops (ops_of found) rest.0 rest.2,
           )
       | inr r ↦
-          let closed : Taken = refused_behind (log_with_ops log r.before) in
+          let closed : Taken = refused_after (log_with_ops log r.before) in
           let stops : log_joined limit log cursor f.ops ≡ closed =
           ap (log_joined limit log cursor) r.split ∙ one_too_many limit cursor r.before r.op r.later log r.lacks r.full in (
             closed,
@@ -164,7 +164,7 @@ module _ (limit cursor : ℕ) (log : List (List ℕ)) (fits : cursor < 2 ^ 32) (
   abbrev pub said : List ℕ
   said = (hello cursor ++ bytes_of found) ++ closing
 
-  -- behind the cursor
+  -- after the cursor
   from : (b : Bool) → nat_lt (length log) cursor ≡ b → at_cursor log cursor ≡ (if b then session_refused log 3 else session_goes_on log cursor)
   from b e = ap (λ c. if c then session_refused log 3 else session_goes_on log cursor) e
 
@@ -196,7 +196,7 @@ module _ (limit cursor : ℕ) (log : List (List ℕ)) (fits : cursor < 2 ^ 32) (
                     inr (inr (record { within = within; room = all.0; answered = refl })),
                   )
               | inr r ↦
-                  let after : Taken = refused_behind (log_with_ops log r.0.before) in
+                  let after : Taken = refused_after (log_with_ops log r.0.before) in
                   let closes : TakesAll limit closing f.0 after =
                   subst (λ t. TakesAll limit closing t after) (sym r.1) (closed_takes limit closing (log_with_ops log r.0.before) (refusal_message 2)) in (
                     after,
@@ -226,7 +226,7 @@ pub asked : (cursor : ℕ) (held : Held) → All HasFrame (sent_ops held) → As
 asked cursor held have =
     let first : IsWritten (accepted held.history) (frames (accepted held.history)) =
     written (accepted held.history) (all_before HasFrame (accepted held.history) held.waiting have) in
-    let second : IsWritten held.waiting (frames held.waiting) = written held.waiting (all_behind HasFrame (accepted held.history) held.waiting have) in
+    let second : IsWritten held.waiting (frames held.waiting) = written held.waiting (all_after HasFrame (accepted held.history) held.waiting have) in
     let found : List Framed = first.found ++ second.found in
     let bytes_are : frames (accepted held.history) ++ frames held.waiting ≡ bytes_of found =
     (λ i. first.bytes_are i ++ second.bytes_are i) ∙ sym (flat_map-append (λ (f : Framed). f.bytes) first.found second.found) in

@@ -19,7 +19,7 @@ use Rattle.relay_sync.specs.declared.serving.ServeFault.{ServeFault}
 use Rattle.relay_sync.specs.declared.serving.ServeFault.TheVariants.{DockFault, NoMemory, TooLong}
 use Rattle.relay_sync.proofs.ServingLemmas.{room_first}
 
--- a turn, and the relay behind it
+-- a turn, and the relay after it
 record Begun (old last : Relay) (turn : ServedStep) (turns : List ServedStep) : Type 0 where
   middle : Relay
   steps : RelaySteps old (event_of turn.step) middle turn.reply
@@ -140,7 +140,7 @@ record Behind (relay last : Relay) (taken whole : List ServedStep) (left behind 
   closed : closed_in whole ≡ closed_in taken ++ closed_in rest
   over : (over : List ℕ) → over_after over whole ≡ over_after over (taken ++ rest)
 
--- or nothing was left of them, and a step was taken of those behind them
+-- or nothing was left of them, and a step was taken of those after them
 record UsedUp (taken whole : List ServedStep) (behind : List MemStep) : Type 0 where
   count : ℕ
   below : count < length taken
@@ -197,7 +197,7 @@ takes_turns last end behind (x ∷ xs) old (t ∷ ts) coming left runs is comes 
         let l = takes_turn old b.middle last x t ts coming m behind some is b.steps runs in
         with_turn b.middle end last x xs (t ∷ ts) m left behind l (rest m l comes)
 
--- turns behind which no step stands are no turns
+-- turns after which no step stands are no turns
 no_turns : (turns : List ServedStep) (more : List MemStep) → steps_of turns ++ more ≡ [] → turns ≡ []
 no_turns [] more e = refl
 no_turns (turn ∷ turns) more e = absurd (cc e)
@@ -222,7 +222,7 @@ parts_joined start one other whole parts comes runs given =
         )
     by (inr used) = absurd (used.some refl)
 
--- steps that come one behind the other, and that steps stay specified
+-- steps that come one after the other, and that steps stay specified
 comes_split : (xs ys : List MemStep) (a c : Option (List MemStep)) → HaveCome a (xs ++ ys) c → (b : Option (List MemStep)) × HaveCome a xs b × HaveCome b ys c
 comes_split [] ys a c h = (a, refl, h)
 comes_split (x ∷ xs) ys a c h = let rest = comes_split xs ys h.0 c h.2 in (rest.0, (h.0, h.1, rest.1), rest.2)
@@ -247,8 +247,8 @@ module _ (sessions : ℕ) (a : Relay) (x : DockView) (s : DockSuffices sessions 
   reported : (left : List MemStep) × (after ≡ Some left)
   reported = stays_reported coming (steps_of turns) after (subst (λ c. HaveCome c (steps_of turns) after) s.coming comes)
 
-  left_behind : Behind b s.last turns s.turns reported.0 s.behind
-  left_behind =
+  left_after : Behind b s.last turns s.turns reported.0 s.behind
+  left_after =
       by (takes_turns s.last b s.behind turns a s.turns coming reported.0 s.runs refl
       (subst (λ c. HaveCome (Some coming) (steps_of turns) c) reported.1 (subst (λ c. HaveCome c (steps_of turns) after) s.coming comes)) runs)
     where
@@ -259,7 +259,7 @@ module _ (sessions : ℕ) (a : Relay) (x : DockView) (s : DockSuffices sessions 
   -- it lasts for them
   lasts_so : Lasts x turns
   lasts_so =
-      let l = left_behind in
+      let l = left_after in
       room_first x (λ session. sent_to session s.turns) (λ session. sent_to session turns) (λ session. sent_to session l.rest) (closed_in s.turns) (closed_in turns)
       (closed_in l.rest) l.sent l.closed
       s.lasts
@@ -267,7 +267,7 @@ module _ (sessions : ℕ) (a : Relay) (x : DockView) (s : DockSuffices sessions 
   -- where no step is left, enough sessions are over
   all_over : after ≡ Some [] → sessions ≤ count_over turns
   all_over is =
-      let l = left_behind in
+      let l = left_after in
       let none_left : steps_of l.rest ++ s.behind ≡ [] = cc (reported.1, is, l.left_is) in
       subst (λ o. sessions ≤ length o) (l.over [] ∙ ap (λ rest. over_after [] (turns ++ rest)) (no_turns l.rest s.behind none_left) ∙ ap (over_after []) (append-nil turns)) s.over
 

@@ -1,4 +1,4 @@
--- The fault of an exchange that a fault of taking in is.
+-- How a fault of delivering operations becomes the fault of an exchange.
 use Rattle.replica_core.specs.declared.keeping.FeedFault.{FeedFault}
 use Rattle.replica_core.specs.declared.keeping.FeedFault.TheVariants as feed_fault
 use Rattle.relay_sync.specs.declared.syncing.SyncFault.{SyncFault}

@@ -41,8 +41,8 @@ pub record IsNoMessage (bytes : List ℕ) : Type 0 where
   pub none_begins : (message : Message) → BeginsBytes message bytes → ⊥
   pub no_front : IsMessageFront bytes → ⊥
 
--- How the rest behind the frames ends a reply of so many bytes whose operations all find their place. The rest goes up
--- to the limit, and what stands behind a message there counts for nothing.
+-- How the rest after the frames ends a reply of so many bytes whose operations all find their place. The rest goes up
+-- to the limit, and what stands after a message there counts for nothing.
 abbrev pub EndsReply : (size place : ℕ) → List ℕ → ReplyEnd → Type 0
 EndsReply size place rest (Ended count) = BeginsBytes (End count) rest
 EndsReply size place rest (Refused code) = BeginsBytes (Refusal code) rest
@@ -51,7 +51,7 @@ EndsReply size place rest (Cut at) = (at ≡ place) × (size ≤ STREAM_LIMIT) �
 EndsReply size place rest TooLong = (STREAM_LIMIT < size) × IsMessageFront rest
 EndsReply size place rest TooMany = ⊥
 
--- the operations of the reply's frames, and how the rest behind these ends it
+-- the operations of the reply's frames, and how the rest after these ends it
 pub record ReadsReply (bytes : List ℕ) (ops : List Op) (end : ReplyEnd) : Type 0 where
   pub found : List Framed
   pub are_frames : All (IsFrame Version2) found
@@ -103,7 +103,7 @@ sync_answer after (Cut at) = Err (sync_fault.CutShort at)
 sync_answer after TooLong = Err sync_fault.TooLong
 sync_answer after TooMany = Err (sync_fault.TooMany after.replica.most)
 
--- the reply's bytes decide such an answer: it is no fault of the wire, and no want of memory
+-- the reply's bytes decide such an answer: it is no fault of the wire, and no allocation failure
 abbrev pub IsByReply : Result Synced SyncFault → Type 0
 IsByReply (Err sync_fault.WireFault) = ⊥
 IsByReply (Err sync_fault.NoMemory) = ⊥
@@ -116,7 +116,7 @@ pub record AnswerIs (before : OpsTaking) (bytes : List ℕ) (answer : Result Syn
   pub comes : HearsTo bytes before after end
   pub answer_is : answer ≡ sync_answer after end
 
--- each answer comes exactly where the bytes of the reply say so, but for a fault of the wire and want of memory
+-- each answer comes exactly where the bytes of the reply say so, but for a fault of the wire and an allocation failure
 abbrev pub AnswersByReply : Result Synced SyncFault → (before : OpsTaking) → List ℕ → Type 0
 AnswersByReply result before bytes = IsByReply result → (answer : Result Synced SyncFault) → IsByReply answer
     → (result ≡ answer) ↔ AnswerIs before bytes answer

@@ -4,7 +4,7 @@ use Rattle.fugue_ids.specs.Outs.{Took, TookFront, WritesBytes}
 use Rattle.origin_model.specs.declared.relay.Reply.{Reply}
 use Rattle.outer_ports.specs.dock.Docks.{DockIsSpecified, DockView, SendsNothing, TakesNothing, out_to}
 use Rattle.outer_ports.specs.declared.dock.MemStep.{MemStep}
-use Rattle.relay_sync.specs.Serving.{EndedFront, GaveSteps, HasRoomFor, bytes_to, closed_by, ended_with, ends_behind}
+use Rattle.relay_sync.specs.Serving.{EndedFront, GaveSteps, HasRoomFor, bytes_to, closed_by, ended_with, ends_after}
 use Rattle.relay_sync.specs.declared.serving.ServeFault.{ServeFault}
 use Rattle.relay_sync.specs.declared.serving.ServeFault.TheVariants.{DockFault}
 
@@ -32,12 +32,12 @@ pub record SendsText {E T : Type 0} (old new : DockView) (result : Result T E) (
 abbrev pub LastsFor : DockView → Option Reply → Type 0
 LastsFor dock reply = HasRoomFor dock (λ session. bytes_to session reply) (closed_by reply)
 
--- the reply was sent whole, to its session alone, which is ended behind all of it where the reply closes it
+-- the reply was sent whole, to its session alone, which is ended after all of it where the reply closes it
 pub record Replied (old new : DockView) (reply : Option Reply) : Type 0 where
   pub sent : (session : ℕ) → Took (out_to session old) (out_to session new) (bytes_to session reply)
   pub ended : new.ended ≡ option_map (λ ended. ended ++ closed_by reply) old.ended
   pub ended_at : new.ended_at ≡ ended_with new.sent reply old.ended_at
-  pub ends : new.ends ≡ ends_behind (closed_by reply) old.ends
+  pub ends : new.ends ≡ ends_after (closed_by reply) old.ends
   pub nothing_taken : TakesNothing old new
   pub listens : new.listens ≡ old.listens
   pub later : old.faults ≤ new.faults

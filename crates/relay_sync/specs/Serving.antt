@@ -7,7 +7,7 @@ use Rattle.origin_model.specs.declared.relay.Event.{Event}
 use Rattle.origin_model.specs.declared.relay.Event.TheVariants as event
 use Rattle.origin_model.specs.declared.relay.Reply.{Reply}
 use Rattle.origin_model.specs.relay.Relay.{Relay, RelayRuns}
-use Rattle.outer_ports.specs.dock.Docks.{DockView, ended_behind, out_to}
+use Rattle.outer_ports.specs.dock.Docks.{DockView, ended_after, out_to}
 use Rattle.outer_ports.specs.dock.Steps.{GivesSome}
 use Rattle.outer_ports.specs.declared.dock.MemStep.{MemStep}
 use Rattle.outer_ports.specs.declared.dock.MemStep.TheVariants.{Opened, Bytes, Gone}
@@ -39,7 +39,7 @@ abbrev pub bytes_to : ℕ → Option Reply → List ℕ
 bytes_to session None = []
 bytes_to session (Some reply) = if nat_eq session reply.session then reply.bytes else []
 
--- the replies to a session, one behind the other
+-- the replies to a session, one after the other
 abbrev pub sent_to : ℕ → List ServedStep → List ℕ
 sent_to session turns = flat_map (λ turn. bytes_to session turn.reply) turns
 
@@ -97,13 +97,13 @@ abbrev pub Lasts : DockView → List ServedStep → Type 0
 Lasts dock turns = HasRoomFor dock (λ session. sent_to session turns) (closed_in turns)
 
 -- so many further sessions can be ended where these were
-abbrev pub ends_behind : List ℕ → Option ℕ → Option ℕ
-ends_behind closed ends = option_map (λ ends. ends - length closed) ends
+abbrev pub ends_after : List ℕ → Option ℕ → Option ℕ
+ends_after closed ends = option_map (λ ends. ends - length closed) ends
 
 -- the session that a reply closes is ended with all that it was sent until then: how many bytes
 abbrev pub ended_with : (sent : ℕ → Option (List ℕ)) → Option Reply → Option (List ℕ) → Option (List ℕ)
 ended_with sent None counts = counts
-ended_with sent (Some reply) counts = if reply.closes then ended_behind counts (sent reply.session) else counts
+ended_with sent (Some reply) counts = if reply.closes then ended_after counts (sent reply.session) else counts
 
 -- the same turn by turn, from what each session was sent before
 abbrev pub ended_in : (sent : ℕ → Option (List ℕ)) → Option (List ℕ) → List ServedStep → Option (List ℕ)
@@ -125,7 +125,7 @@ pub record Serves (old_relay new_relay : Relay) (old new : DockView) (turns : Li
   pub ended : new.ended ≡ option_map (λ ended. ended ++ closed_in turns) old.ended
   -- nothing is sent to a session once its closing reply was sent and it was ended, and it is not ended before
   pub ended_at : new.ended_at ≡ ended_in old.sent old.ended_at turns
-  pub ends : new.ends ≡ ends_behind (closed_in turns) old.ends
+  pub ends : new.ends ≡ ends_after (closed_in turns) old.ends
   pub listens : new.listens ≡ old.listens
   pub later : old.faults ≤ new.faults
   -- no call fails on a dock that lasts
@@ -177,7 +177,7 @@ pub record ServingStops (sessions steps : ℕ) (fault : ServeFault) (old_relay n
   pub few : length turns + length partly.more ≤ steps
   pub in_turn : StopsInTurn fault old_relay new_relay old new turns
   -- another fault than TooLong comes before all steps that are allowed were taken and served; the last of them may be the one
-  -- at which memory is wanting
+  -- at which memory runs out
   pub allowed : fault ≢ TooLong → length in_turn.served < steps
   pub none_after : NoneAfter sessions turns
   -- nor was the step asked for that the relay was not given

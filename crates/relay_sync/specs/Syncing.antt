@@ -43,7 +43,7 @@ pub record HearsUpTo (op : Op) (before after : OpsTaking) (frame : List ℕ) : T
   pub is_message : IsMessage (Operations (front ++ op ∷ more)) frame
   pub takes : TakesIn before after front
 
--- one of them is one too many, or memory was wanting for it
+-- one of them is one too many, or memory ran out for it
 abbrev pub TakesNotAll : FeedFault → (before after : OpsTaking) → (frame : List ℕ) → Type 0
 TakesNotAll (feed_fault.TooMany most) before after frame =
     (op : Op) × HearsUpTo op before after frame × (most ≡ after.replica.most)
@@ -61,7 +61,7 @@ pub record HearsReply (old new : WireView) (before after : OpsTaking) (count : �
   pub within : length (flat_map (λ framed. framed.bytes) found ++ last) ≤ STREAM_LIMIT
   pub takes : TakesIn before after (flat_map (λ framed. framed.ops) found)
 
--- why no more was heard, behind the frames whose operations were taken in: the bytes there decide
+-- why no more was heard, after the frames whose operations were taken in: the bytes there decide
 abbrev pub ReplyStopsFor : SyncFault → (old new : WireView) → (before after : OpsTaking) → (place : ℕ) → List ℕ → Type 0
 ReplyStopsFor (RelayRefused code) old new before after place bytes =
     (after ≡ before) × IsMessage (Refusal code) bytes × (place + length bytes ≤ STREAM_LIMIT)
@@ -81,7 +81,7 @@ pub record HearsPartly (fault : SyncFault) (old new : WireView) (before after : 
   pub takes : TakesIn before middle (flat_map (λ framed. framed.ops) found)
   pub stops : ReplyStopsFor fault old new middle after (length (flat_map (λ framed. framed.bytes) found)) bytes
 
--- of these bytes a reply was heard up to the message that ends it, and nothing behind it
+-- of these bytes a reply was heard up to the message that ends it, and nothing after it
 pub record HearsNoFurther (old new : Option (List ℕ)) : Type 0 where
   pub found : List Framed
   pub are_frames : All (IsFrame Version2) found
@@ -97,7 +97,7 @@ pub record SaysRequest (old new : WireView) (port cursor : ℕ) (held : Held) : 
   pub left : new.left ≡ old.left
   pub later : old.faults ≤ new.faults
 
--- why not all of it was said: for want of memory nothing was done
+-- why not all of it was said: for lack of memory nothing was done
 abbrev pub SaysNotAll : SyncFault → (old new : WireView) → Type 0
 SaysNotAll WireFault old new = Faulted old.faults new.faults
 SaysNotAll NoMemory old new = new ≡ old

@@ -9,7 +9,7 @@ use fugue_ids::STREAM_LIMIT;
 use op_frame::{END, FrameFront, Grown, REFUSAL};
 use outer_ports::Wire;
 
-/// Hears one byte more of the message at the place, and nothing behind it. The one past the limit is too many.
+/// Hears one byte more of the message at the place, and nothing after it. The one past the limit is too many.
 pub(crate) fn next_byte<W: Wire>(wire: &mut W, heard: &mut u64, place: u64) -> Result<u8, SyncFault>
     requires { heard.old ≤ STREAM_LIMIT }
     ensures ok { IfOk result (λ byte. HeardBytes (W.seen wire.old) (W.seen wire.new) (byte ∷ [])) }
@@ -34,7 +34,7 @@ pub(crate) fn next_byte<W: Wire>(wire: &mut W, heard: &mut u64, place: u64) -> R
     Ok(buffer[0])
 }
 
-/// The number behind the byte that ends a reply.
+/// The number after the byte that ends a reply.
 pub(crate) fn next_number<W: Wire>(
     wire: &mut W,
     heard: &mut u64,
@@ -57,7 +57,7 @@ pub(crate) fn next_number<W: Wire>(
     Ok(u32::from_be_bytes(number))
 }
 
-/// The code behind the byte that refuses.
+/// The code after the byte that refuses.
 pub(crate) fn next_code<W: Wire>(wire: &mut W, heard: &mut u64, place: u64) -> Result<u8, SyncFault>
     requires within { heard.old ≤ STREAM_LIMIT }
     requires count { heard.old ≡ place + 1 }

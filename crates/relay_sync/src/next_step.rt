@@ -11,7 +11,7 @@ use fugue_ids::{BUFFER, ByteList, NoMemory};
 use outer_ports::{Dock, DockStep, MemStep};
 use std::alloc::Global;
 
-/// Takes the next step of the dock, with its bytes. After want of memory the step is lost.
+/// Takes the next step of the dock, with its bytes. After an allocation failure the step is lost.
 pub(crate) fn next_step<D: Dock>(alloc: Global, dock: &mut D) -> Result<MemStep, ServeFault>
     ensures ok { IfOk result (λ step. GivesSteps (D.seen dock.old) (D.seen dock.new) (step ∷ [])) }
     ensures err { IfErr result

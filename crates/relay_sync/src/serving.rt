@@ -33,7 +33,7 @@ pub enum ServeFault {
 /// counts once.
 ///
 /// After a fault the relay stands after a front of the steps. Once all steps that are allowed were taken and served,
-/// and fewer sessions are over, the answer of a dock that lasts is `TooLong`, but for want of memory.
+/// and fewer sessions are over, the answer of a dock that lasts is `TooLong`, but for lack of memory.
 pub fn serve<B: BuildHasher, D: Dock>(
     alloc: Global,
     relay: &mut Relay<B>,

@@ -144,7 +144,7 @@ fn hear<W: Wire>(
     }
 }
 
-/// Hears one message, byte by byte, so that nothing behind it is heard: the operations of a frame are taken in, and the
+/// Hears one message, byte by byte, so that nothing after it is heard: the operations of a frame are taken in, and the
 /// number that ends the reply is the answer.
 fn hear_one<W: Wire>(
     alloc: Global,

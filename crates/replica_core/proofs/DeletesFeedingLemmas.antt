@@ -5,12 +5,12 @@ use Rattle.std.specs.Prelude.{◌↔◌, All, Contains, ◌&&◌, ◌||◌, not,
 use Rattle.std.proofs.lemmas.Bool.{not-true, or_from}
 use Rattle.std.proofs.lemmas.List.Elements.{All-cons, All-nil}
 use Rattle.fugue_ids.specs.Identifiers.{Identifier, id_eq}
-use Rattle.fugue_ids.specs.Runs.{id_behind, next_id}
+use Rattle.fugue_ids.specs.Runs.{id_after, next_id}
 use Rattle.fugue_ids.specs.declared.op.Op.{Op}
 use Rattle.fugue_ids.specs.declared.op.Op.TheVariants.{Delete}
 use Rattle.fugue_ids.proofs.IdentifierLemmas.{cases_id, ne-id_eq}
 use Rattle.fugue_ids.proofs.ListLemmas.{contains_filter_from, contains_here, contains_there}
-use Rattle.fugue_ids.proofs.RunLemmas.{none_behind, one_behind}
+use Rattle.fugue_ids.proofs.RunLemmas.{none_after, one_after}
 use Rattle.op_runs.specs.Deletions.{deletes_up}
 use Rattle.op_runs.proofs.DeletionLemmas.{deletes-append, length-deletes}
 use Rattle.origin_model.specs.declared.operations.Place.{Place}
@@ -44,7 +44,7 @@ use Rattle.replica_core.specs.declared.keeping.FeedFault.{FeedFault}
 use Rattle.replica_core.specs.declared.keeping.FeedFault.TheVariants.{NoMemory as FedNoMemory, TooMany as FedTooMany}
 use Rattle.replica_core.proofs.DeletingLemmas.{can_rest, fewer_can}
 use Rattle.replica_core.proofs.FeedLemmas.{fed_quietly}
-use Rattle.replica_core.proofs.FeedingLemmas.{first_stops, first_unkept, joins_all, kept_behind, repeats_all, stops_copying, stops_joining, stops_on, takes_none_in, takes_on}
+use Rattle.replica_core.proofs.FeedingLemmas.{first_stops, first_unkept, joins_all, kept_after, repeats_all, stops_copying, stops_joining, stops_on, takes_none_in, takes_on}
 use Rattle.replica_core.proofs.FeedingLemmas.{unkept_on}
 use Rattle.replica_core.proofs.LookUpLemmas.{text_found}
 use Rattle.replica_core.proofs.JoinLemmas.{can_be_accepted, first_can}
@@ -65,29 +65,29 @@ feeding_row s t x count sound settled few = record { taken = takes_none_in s t s
 
 -- some more
 pub row_fed_on : (s now new : State) (t counts after : Tally) (x : Identifier) (count done n : ℕ) → IsFeedingRow s t x count now counts done → n ≤ count - done → done < count
-    → TakesInAll now new (deletes_up (id_behind x done) n) counts after → IsSound new → IsFeedingRow s t x count new after (done + n)
+    → TakesInAll now new (deletes_up (id_after x done) n) counts after → IsSound new → IsFeedingRow s t x count new after (done + n)
 row_fed_on s now new t counts after x count done n f no_more less took sound =
     let few : total counts + length now.held.waiting + count ≤ 2 ^ 31 + done = f.few in
-    let once : total after + length new.held.waiting ≡ total counts + length now.held.waiting + length (deletes_up (id_behind x done) n) = took.once in
-    let long : length (deletes_up (id_behind x done) n) ≡ n = length-deletes false (id_behind x done) n in
+    let once : total after + length new.held.waiting ≡ total counts + length now.held.waiting + length (deletes_up (id_after x done) n) = took.once in
+    let long : length (deletes_up (id_after x done) n) ≡ n = length-deletes false (id_after x done) n in
     record {
       taken = subst (λ (z : List Op). TakesInAll s new z t after) (sym (deletes-append false x done n))
-          (takes_on s now new (deletes_up x done) (deletes_up (id_behind x done) n) t counts after f.taken took);
+          (takes_on s now new (deletes_up x done) (deletes_up (id_after x done) n) t counts after f.taken took);
       sound = sound;
       within = omega (arith, no_more, less);
       few = omega (arith, few, once, long);
     }
 
 -- those that are left
-left_over : (x : Identifier) (count done : ℕ) → done < count → deletes_up x count ≡ deletes_up x done ++ deletes_up (id_behind x done) (count - done)
+left_over : (x : Identifier) (count done : ℕ) → done < count → deletes_up x count ≡ deletes_up x done ++ deletes_up (id_after x done) (count - done)
 left_over x count done less = let e : count ≡ done + (count - done) = omega (arith, less) in ap (deletes_up x) e ∙ deletes-append false x done (count - done)
 
 -- not all
 pub row_fed_some : (s now new : State) (t counts after : Tally) (x : Identifier) (count done : ℕ) (fault : FeedFault) → IsFeedingRow s t x count now counts done → done < count
-    → StopsFeeding (deletes_up (id_behind x done) (count - done)) now new counts after fault → StopsFeeding (deletes_up x count) s new t after fault
+    → StopsFeeding (deletes_up (id_after x done) (count - done)) now new counts after fault → StopsFeeding (deletes_up x count) s new t after fault
 row_fed_some s now new t counts after x count done fault f less stops =
     subst (λ (z : List Op). StopsFeeding z s new t after fault) (sym (left_over x count done less))
-    (stops_on s now new (deletes_up x done) (deletes_up (id_behind x done) (count - done)) t counts after fault f.taken stops)
+    (stops_on s now new (deletes_up x done) (deletes_up (id_after x done) (count - done)) t counts after fault f.taken stops)
 
 -- all
 pub row_fed_all : (s now : State) (t counts : Tally) (x : Identifier) (count done : ℕ) → IsFeedingRow s t x count now counts done → count ≤ done
@@ -105,25 +105,25 @@ keeping_row s t kept x count sound settled few = record { feeds = feeding_row s 
 
 pub row_kept_on : (s now new : State) (t counts after : Tally) (kept kept_now kept_new : List Op) (x : Identifier) (count done n : ℕ)
     → IsKeepingRow s t kept x count now counts kept_now done → n ≤ count - done → done < count
-    → TakesInAll now new (deletes_up (id_behind x done) n) counts after → IsSound new
-    → kept_new ≡ kept_now ++ kept_from now.hold now.most now.held (deletes_up (id_behind x done) n)
+    → TakesInAll now new (deletes_up (id_after x done) n) counts after → IsSound new
+    → kept_new ≡ kept_now ++ kept_from now.hold now.most now.held (deletes_up (id_after x done) n)
     → IsKeepingRow s t kept x count new after kept_new (done + n)
 row_kept_on s now new t counts after kept kept_now kept_new x count done n k no_more less took sound more =
     let front : List Op = deletes_up x done in
-    let next : List Op = deletes_up (id_behind x done) n in
+    let next : List Op = deletes_up (id_after x done) n in
     record {
       feeds = row_fed_on s now new t counts after x count done n k.feeds no_more less took sound;
       kept_are = more ∙ ap (λ (z : List Op). z ++ kept_from now.hold now.most now.held next) k.kept_are
           ∙ append_assoc kept (kept_from s.hold s.most s.held front) (kept_from now.hold now.most now.held next)
-          ∙ ap (λ (z : List Op). kept ++ z) (kept_behind s now front next k.feeds.taken.replica ∙ ap (kept_from s.hold s.most s.held) (sym (deletes-append false x done n)));
+          ∙ ap (λ (z : List Op). kept ++ z) (kept_after s now front next k.feeds.taken.replica ∙ ap (kept_from s.hold s.most s.held) (sym (deletes-append false x done n)));
     }
 
 pub row_kept_some : (s now new : State) (t counts after : Tally) (kept kept_now kept_new : List Op) (x : Identifier) (count done : ℕ) (fault : FeedFault)
     → IsKeepingRow s t kept x count now counts kept_now done → done < count
-    → StopsKeeping (deletes_up (id_behind x done) (count - done)) now new counts after kept_now kept_new fault → StopsKeeping (deletes_up x count) s new t after kept kept_new fault
+    → StopsKeeping (deletes_up (id_after x done) (count - done)) now new counts after kept_now kept_new fault → StopsKeeping (deletes_up x count) s new t after kept kept_new fault
 row_kept_some s now new t counts after kept kept_now kept_new x count done fault k less stops =
     subst (λ (z : List Op). StopsKeeping z s new t after kept kept_new fault) (sym (left_over x count done less))
-    (unkept_on s now new (deletes_up x done) (deletes_up (id_behind x done) (count - done)) t counts after kept kept_now kept_new fault k.feeds.taken k.kept_are stops)
+    (unkept_on s now new (deletes_up x done) (deletes_up (id_after x done) (count - done)) t counts after kept kept_now kept_new fault k.feeds.taken k.kept_are stops)
 
 pub row_kept_all : (s now : State) (t counts : Tally) (kept kept_now : List Op) (x : Identifier) (count done : ℕ) → IsKeepingRow s t kept x count now counts kept_now done
     → count ≤ done
@@ -154,7 +154,7 @@ pub next_ahead : (walk : List Identifier) (x : Identifier) → slice_get walk 0 
 next_ahead [] x e = cc
 next_ahead (y ∷ walk) x e = let same : y ≡ x = cc in subst (Contains (y ∷ walk)) same (contains_here y walk)
 
--- and so is what comes behind that
+-- and so is what comes after that
 pub rest_ahead : (walk : List Identifier) (x : Identifier) → Contains (drop 1 walk) x → Contains walk x
 rest_ahead [] x there = there
 rest_ahead (y ∷ walk) x there = contains_there y walk x there
@@ -171,9 +171,9 @@ pub hidden_deleted : (n : ℕ) (h : List Op) (p : Place) (l : Listing) (x : Iden
 hidden_deleted zero h p l x w place hidden = All-nil (λ op. has_op h op ≡ true)
 hidden_deleted (suc n) h p l x w place hidden =
     All-cons (λ op. has_op h op ≡ true) (Delete x) (deletes_up (next_id x) n)
-    (deleted (subst (λ y. is_hidden_cell l.cells y ≡ true) (none_behind x) (hidden 0 (omega arith))))
+    (deleted (subst (λ y. is_hidden_cell l.cells y ≡ true) (none_after x) (hidden 0 (omega arith))))
     (hidden_deleted n h p l (next_id x) w place
-    (λ k less. subst (λ y. is_hidden_cell l.cells y ≡ true) (sym (one_behind x k)) (hidden (suc k) (omega (arith, less)))))
+    (λ k less. subst (λ y. is_hidden_cell l.cells y ≡ true) (sym (one_after x k)) (hidden (suc k) (omega (arith, less)))))
   where
     is_cell : (cells : List Cell) → is_hidden_cell cells x ≡ true → Contains (cell_ids cells) x
     is_cell [] e = cc
@@ -231,13 +231,13 @@ record IsUndeleted (s : Identifier) (h : List Op) (x : Identifier) : Type 0 wher
 
 -- so are the first n identifiers from x on
 abbrev AreUndeleted : Identifier → List Op → Identifier → ℕ → Type 0
-AreUndeleted s h x n = (k : ℕ) → k < n → IsUndeleted s h (id_behind x k)
+AreUndeleted s h x n = (k : ℕ) → k < n → IsUndeleted s h (id_after x k)
 
 -- what is visible in a section's list is such an element
 visible_undeleted : (m : Contents) (h : List Op) (s : Identifier) (l : Listing) (x : Identifier) (n : ℕ) → Represents m h → Some l ≡ text_at m s
     → HaveCells (cells_shown l.cells) x n → AreUndeleted s h x n
 visible_undeleted m h s l x n represents is visible k less =
-    let y : Identifier = id_behind x k in
+    let y : Identifier = id_after x k in
     let place : IsOrderedPlace (within s) h l = (text_found m h s l represents is).place in
     let there = contains_filter_from (λ z. not (is_hidden h z)) (order (within s) h) y (subst (λ (xs : List Identifier). Contains xs y) place.visible (visible k less)) in
     record { inside = ((order_total (within s) h represents.lawful).lists y).1 there.0; shown = not-true (is_hidden h y) there.1 }
@@ -246,13 +246,13 @@ visible_undeleted m h s l x n represents is visible k less =
 ready_row : (n : ℕ) (x s : Identifier) (h : List Op) → AreUndeleted s h x n → ReadyInTurn h (deletes_up x n)
 ready_row zero x s h each = tt
 ready_row (suc n) x s h each =
-    let here : IsUndeleted s h x = subst (IsUndeleted s h) (none_behind x) (each 0 (omega arith)) in
+    let here : IsUndeleted s h x = subst (IsUndeleted s h) (none_after x) (each 0 (omega arith)) in
     (shown_can_go h x (IsIn-held (within s) h x here.inside) here.shown, ready_row n (next_id x) s (Delete x ∷ h) rest)
   where
     rest : AreUndeleted s (Delete x ∷ h) (next_id x) n
     rest k less =
-        let y : Identifier = id_behind (next_id x) k in
-        let was : IsUndeleted s h y = subst (IsUndeleted s h) (sym (one_behind x k)) (each (suc k) (omega (arith, less))) in
+        let y : Identifier = id_after (next_id x) k in
+        let was : IsUndeleted s h y = subst (IsUndeleted s h) (sym (one_after x k)) (each (suc k) (omega (arith, less))) in
         let other : x ≢ y = λ same. let at : x.counter ≡ x.counter + 1 + k = ap (λ (i : Identifier). i.counter) same in omega (arith, at) in
         record {
           inside = record { op = was.inside.op; held = was.inside.held; place = was.inside.place };
@@ -263,8 +263,8 @@ ready_row (suc n) x s h each =
 undeleted_within : (n : ℕ) (x s : Identifier) (h : List Op) → AreUndeleted s h x n → AreWithin s h (ids_from x n)
 undeleted_within zero x s h each = All-nil (λ y. IsIn (within s) h y)
 undeleted_within (suc n) x s h each =
-    All-cons (λ y. IsIn (within s) h y) x (ids_from (next_id x) n) (subst (IsUndeleted s h) (none_behind x) (each 0 (omega arith))).inside
-    (undeleted_within n (next_id x) s h (λ k less. subst (IsUndeleted s h) (sym (one_behind x k)) (each (suc k) (omega (arith, less)))))
+    All-cons (λ y. IsIn (within s) h y) x (ids_from (next_id x) n) (subst (IsUndeleted s h) (none_after x) (each 0 (omega arith))).inside
+    (undeleted_within n (next_id x) s h (λ k less. subst (IsUndeleted s h) (sym (one_after x k)) (each (suc k) (omega (arith, less)))))
 
 pub row_within : (m : Contents) (h : List Op) (s : Identifier) (l : Listing) (x : Identifier) (n : ℕ) → Represents m h → Some l ≡ text_at m s → HaveCells (cells_shown l.cells) x n
     → AreWithin s h (ids_from x n)
@@ -305,11 +305,11 @@ row_pushed_whole x n kept mid pushed = omega (arith, ap length pushed, length-ap
 -- copies of a row but for the first so many are taken off
 pub row_back : (x : Identifier) (n k : ℕ) (kept mid new : List Op) → k < n → mid ≡ kept ++ deletes_up x n → new ≡ take (length mid - (n - k)) mid → new ≡ kept ++ deletes_up x k
 row_back x n k kept mid new fewer pushed gone =
-    back_again (kept ++ deletes_up x k) (deletes_up (id_behind x k) (n - k)) mid new (n - k)
-    (pushed ∙ ap (λ (z : List Op). kept ++ z) (left_over x n k fewer) ∙ sym (append_assoc kept (deletes_up x k) (deletes_up (id_behind x k) (n - k))))
-    (length-deletes false (id_behind x k) (n - k)) gone
+    back_again (kept ++ deletes_up x k) (deletes_up (id_after x k) (n - k)) mid new (n - k)
+    (pushed ∙ ap (λ (z : List Op). kept ++ z) (left_over x n k fewer) ∙ sym (append_assoc kept (deletes_up x k) (deletes_up (id_after x k) (n - k))))
+    (length-deletes false (id_after x k) (n - k)) gone
 
--- memory is wanting for their copies
+-- memory runs out for their copies
 pub row_uncopied : (s new : State) (x : Identifier) (count n : ℕ) (t : Tally) (kept kept_new : List Op) → 0 < n → n ≤ count → CanJoin s (deletes_up x n) → new ≡ s → kept_new ≡ kept
     → StopsKeeping (deletes_up x count) s new t t kept kept_new FedNoMemory
 row_uncopied s new x count zero t kept kept_new some no_more can is same = absurd (omega (arith, some))
@@ -317,14 +317,14 @@ row_uncopied s new x zero (suc n) t kept kept_new some no_more can is same = abs
 row_uncopied s new x (suc count) (suc n) t kept kept_new some no_more can is same =
     stops_copying s new (Delete x) (deletes_up (next_id x) n) (deletes_up (next_id x) count) t kept kept_new can is same
 
--- memory is wanting behind the first of them
+-- memory runs out after the first of them
 module _ (s new : State) (x : Identifier) (count n k : ℕ) (t : Tally) (fewer : k < n) (no_more : n ≤ count) (can : CanJoin s (deletes_up x n))
     (is : new ≡ with_ops s (deletes_up x k)) where
   abbrev counts : Tally
   counts = record t { accepted = t.accepted + k }
 
   abbrev y : Identifier
-  y = id_behind x k
+  y = id_after x k
 
   first_joins : TakesInAll s new (deletes_up x k) t counts
   first_joins = row_joins s new x k t (fewer_can s x n k (omega (arith, fewer)) can) is

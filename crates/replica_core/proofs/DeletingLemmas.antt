@@ -5,11 +5,11 @@ use Rattle.std.specs.Prelude.{All, Some, if◌then◌else◌, not}
 use Rattle.std.proofs.lemmas.List.{drop-drop, drop_all, map-append, take-append-drop, take_all}
 use Rattle.std.proofs.lemmas.List.Elements.{All-drop, All-filter, All-head, All-tail, All-take, All-weaker}
 use Rattle.fugue_ids.specs.Identifiers.{Identifier}
-use Rattle.fugue_ids.specs.Runs.{id_behind, next_id}
+use Rattle.fugue_ids.specs.Runs.{id_after, next_id}
 use Rattle.fugue_ids.specs.declared.op.Op.{Op}
 use Rattle.fugue_ids.specs.declared.op.Op.TheVariants.{Delete}
-use Rattle.fugue_ids.proofs.ListLemmas.{all_before, all_behind, all_from_contains}
-use Rattle.fugue_ids.proofs.RunLemmas.{none_behind, one_behind}
+use Rattle.fugue_ids.proofs.ListLemmas.{all_before, all_after, all_from_contains}
+use Rattle.fugue_ids.proofs.RunLemmas.{none_after, one_after}
 use Rattle.op_runs.specs.Deletions.{deletes_up}
 use Rattle.op_runs.proofs.DeletionLemmas.{deletes-append, length-deletes}
 use Rattle.origin_model.specs.edits.Edits.{ReadyInTurn, deletes_of, history_with}
@@ -34,11 +34,11 @@ use Rattle.replica_core.proofs.JoinLemmas.{IsJoining, begins, ends, stops}
 use Rattle.replica_core.proofs.RunLemmas.{length-extended, taken_back}
 
 -- in two parts
-pub ids_parted : (m n : ℕ) (x : Identifier) → ids_from x (m + n) ≡ ids_from x m ++ ids_from (id_behind x m) n
-ids_parted zero n x = let e : 0 + n ≡ n = omega arith in λ i. ids_from (sym (none_behind x) i) (e i)
+pub ids_parted : (m n : ℕ) (x : Identifier) → ids_from x (m + n) ≡ ids_from x m ++ ids_from (id_after x m) n
+ids_parted zero n x = let e : 0 + n ≡ n = omega arith in λ i. ids_from (sym (none_after x) i) (e i)
 ids_parted (suc m) n x =
     let e : suc m + n ≡ suc (m + n) = omega arith in
-    ap (ids_from x) e ∙ ap (λ t. x ∷ t) (ids_parted m n (next_id x) ∙ ap (λ y. ids_from (next_id x) m ++ ids_from y n) (one_behind x m))
+    ap (ids_from x) e ∙ ap (λ t. x ∷ t) (ids_parted m n (next_id x) ∙ ap (λ y. ids_from (next_id x) m ++ ids_from y n) (one_after x m))
 
 -- their Deletes
 row_of : (k : ℕ) (x : Identifier) → deletes_of (ids_from x k) ≡ deletes_up x k
@@ -53,7 +53,7 @@ ready_front (x ∷ xs) ys h r = (r.0, ready_front xs ys (x ∷ h) r.1)
 pub fewer_ready : (count k : ℕ) (x : Identifier) (h : List Op) → k ≤ count → ReadyInTurn h (deletes_up x count) → ReadyInTurn h (deletes_up x k)
 fewer_ready count k x h l ready =
     let e : count ≡ k + (count - k) = omega (arith, l) in
-    ready_front (deletes_up x k) (deletes_up (id_behind x k) (count - k)) h
+    ready_front (deletes_up x k) (deletes_up (id_after x k) (count - k)) h
     (subst (ReadyInTurn h) (ap (deletes_up x) e ∙ deletes-append false x k (count - k)) ready)
 
 -- the others are taken back
@@ -62,10 +62,10 @@ pub others_taken_back : (count k left : ℕ) (x : Identifier) (h : List Op) → 
 others_taken_back count k left x h l is =
     let e : count ≡ k + left = omega (arith, l, is) in
     let front = deletes_up x k in
-    let back = deletes_up (id_behind x k) left in
+    let back = deletes_up (id_after x k) left in
     ap (λ ops. drop left (history_with h ops)) (ap (deletes_up x) e ∙ deletes-append false x k left)
     ∙ ap (drop left) (extended-append h front back)
-    ∙ ap (λ n. drop n (history_with (history_with h front) back)) (sym (length-deletes false (id_behind x k) left))
+    ∙ ap (λ n. drop n (history_with (history_with h front) back)) (sym (length-deletes false (id_after x k) left))
     ∙ taken_back back (history_with h front)
 
 -- Deletes that are Ready in their turn hide what they name
@@ -83,9 +83,9 @@ stands_deleted m new count k x h l ready represents hides = subst (Represents ne
 pub placed_each : (k : ℕ) (x s : Identifier) (m : Contents) (h : List Op) → Represents m h → AreWithin s h (ids_from x k) → AnswersUpTo (place_at m) x k (Some (within s))
 placed_each zero x s m h represents all j less = absurd (omega (arith, less))
 placed_each (suc k) x s m h represents all zero less =
-    ap (place_at m) (none_behind x) ∙ represents.places x ∙ in_place (within s) h x (All-head (λ y. IsIn (within s) h y) x (ids_from (next_id x) k) all)
+    ap (place_at m) (none_after x) ∙ represents.places x ∙ in_place (within s) h x (All-head (λ y. IsIn (within s) h y) x (ids_from (next_id x) k) all)
 placed_each (suc k) x s m h represents all (suc j) less =
-    ap (place_at m) (sym (one_behind x j))
+    ap (place_at m) (sym (one_after x j))
     ∙ placed_each k (next_id x) s m h represents (All-tail (λ y. IsIn (within s) h y) x (ids_from (next_id x) k) all) j (omega (arith, less))
 
 -- what is shown of a section are elements of it
@@ -107,12 +107,12 @@ still_within ys s h xs all = All-weaker (λ x. IsIn (within s) h x) (λ x. IsIn 
 -- how many identifiers follow one another
 pub record IsRow (rest : List Identifier) (x : Identifier) (k count : ℕ) (last : Identifier) : Type 0 where
   pub counted : count ≡ k
-  pub last_is : last ≡ id_behind x k
+  pub last_is : last ≡ id_after x k
   pub row : take k rest ≡ ids_from (next_id x) k
   pub fits : x.counter + k < 2 ^ 32
 
 pub row_begins : (rest : List Identifier) (x : Identifier) → x.counter < 2 ^ 32 → IsRow rest x 0 0 x
-row_begins rest x fits = record { counted = refl; last_is = sym (none_behind x); row = refl; fits = omega (arith, fits) }
+row_begins rest x fits = record { counted = refl; last_is = sym (none_after x); row = refl; fits = omega (arith, fits) }
 
 pub row_goes_on : (rest : List Identifier) (x : Identifier) (k count : ℕ) (last next : Identifier) → IsRow rest x k count last → k < length rest → next ≡ get_or rest k next
     → next ≡ next_id last
@@ -120,8 +120,8 @@ pub row_goes_on : (rest : List Identifier) (x : Identifier) (k count : ℕ) (las
 row_goes_on rest x k count last next r less at is fits =
     let c : (x.counter + k) + 1 ≡ x.counter + (k + 1) = omega arith in
     let e : k + 1 ≡ suc k = omega arith in
-    let here : next ≡ id_behind x (k + 1) = is ∙ ap next_id r.last_is ∙ (λ i. record { replica = x.replica; counter = c i }) in
-    let there : id_behind (next_id x) k ≡ id_behind x (k + 1) = one_behind x k ∙ ap (id_behind x) (sym e) in
+    let here : next ≡ id_after x (k + 1) = is ∙ ap next_id r.last_is ∙ (λ i. record { replica = x.replica; counter = c i }) in
+    let there : id_after (next_id x) k ≡ id_after x (k + 1) = one_after x k ∙ ap (id_after x) (sym e) in
     record {
       counted = omega (arith, r.counted);
       last_is = here;
@@ -162,7 +162,7 @@ module _ (s : State) (xs ys : List Op) (can : CanJoin s (xs ++ ys)) where
 pub fewer_can : (s : State) (x : Identifier) (count k : ℕ) → k ≤ count → CanJoin s (deletes_up x count) → CanJoin s (deletes_up x k)
 fewer_can s x count k l can =
     let e : count ≡ k + (count - k) = omega (arith, l) in
-    can_front s (deletes_up x k) (deletes_up (id_behind x k) (count - k)) (subst (CanJoin s) (ap (deletes_up x) e ∙ deletes-append false x k (count - k)) can)
+    can_front s (deletes_up x k) (deletes_up (id_after x k) (count - k)) (subst (CanJoin s) (ap (deletes_up x) e ∙ deletes-append false x k (count - k)) can)
 
 -- some more joined, or only the first of them
 module _ (old now new : State) (ops front rest : List Op) (j : IsJoining old now ops (front ++ rest)) (is : new ≡ with_ops now front) (sound : IsSound new) where
@@ -238,7 +238,7 @@ module _ (s : Identifier) (old now : State) (xs : List Identifier) (at : ℕ) (d
     joining = goes_on_all old now new (deletes_of xs) (deletes_up x (count + 1)) (deletes_of rest) deletes_parted_off joined sound;
     within = subst (λ (z : State). AreWithin s z.held.history rest) (sym joined)
         (subst (λ (row : List Op). AreWithin s (history_with now.held.history row) rest) (row_of (count + 1) x)
-        (still_within (ids_from x (count + 1)) s now.held.history rest (all_behind (λ y. IsIn (within s) now.held.history y) (ids_from x (count + 1)) rest both_within)));
+        (still_within (ids_from x (count + 1)) s now.held.history rest (all_after (λ y. IsIn (within s) now.held.history y) (ids_from x (count + 1)) rest both_within)));
     to = omega (arith, long);
   }
 
@@ -246,12 +246,12 @@ module _ (s : Identifier) (old now : State) (xs : List Identifier) (at : ℕ) (d
   pub row_stopped : (new : State) (done : ℕ) → done < count + 1 → new ≡ with_ops now (deletes_up x done) → IsSound new → StopsPartly old new (deletes_of xs)
   row_stopped new done fewer joined sound =
       let e : count + 1 ≡ done + ((count + 1) - done) = omega (arith, fewer) in
-      let more : List Op = deletes_up (id_behind x done) ((count + 1) - done) in
+      let more : List Op = deletes_up (id_after x done) ((count + 1) - done) in
       let j = subst (IsJoining old now (deletes_of xs))
       (ap (λ ops. ops ++ deletes_of rest) (ap (deletes_up x) e ∙ deletes-append false x done ((count + 1) - done)) ∙ append_assoc (deletes_up x done) more (deletes_of rest))
       deletes_parted_off in
       stops_behind old now new (deletes_of xs) (deletes_up x done) (more ++ deletes_of rest) j joined sound
-      (omega (arith, fewer, length-append more (deletes_of rest), length-deletes false (id_behind x done) ((count + 1) - done)))
+      (omega (arith, fewer, length-append more (deletes_of rest), length-deletes false (id_after x done) ((count + 1) - done)))
 
 pub each_deleted : (s : Identifier) (old now : State) (xs : List Identifier) (at : ℕ) → IsDeletingEach s old now xs at → length xs ≤ at → Gains old now (deletes_of xs)
 each_deleted s old now xs at d all = ends old now (deletes_of xs) (subst (IsJoining old now (deletes_of xs)) (ap deletes_of (drop_all at xs all)) d.joining)

@@ -32,7 +32,7 @@ fed_quietly hold most s op a t e settled =
           ∙ counted-none (held_after a s op) (answer_counted a t));
     }
 
--- an accepted operation, and the settling behind it
+-- an accepted operation, and the settling after it
 pub fed_settled : (hold most : ℕ) (s u : Held) (op : Op) (t : Tally) → answer hold most s op ≡ Accepted → SettlesTo (held_after Accepted s op) u → IsSettled u
     → IsFed hold most s op t u (settling_counted (held_after Accepted s op) u (answer_counted Accepted t))
 fed_settled hold most s u op t e r settled =
@@ -43,7 +43,7 @@ fed_settled hold most s u op t e r settled =
           ∙ sym (ap (λ (b : Answer). settling_counted (held_after b s op) (settle (held_after b s op)) (answer_counted b t)) e);
     }
 
--- an accepted operation, and some of the settling behind it
+-- an accepted operation, and some of the settling after it
 pub fed_partly : (hold most : ℕ) (s u : Held) (op : Op) (t : Tally) → answer hold most s op ≡ Accepted → SettlesTo (held_after Accepted s op) u → JoinsNext u
     → StandsPartly hold most s u op t (settling_counted (held_after Accepted s op) u (answer_counted Accepted t))
 fed_partly hold most s u op t e r stopped = record {
@@ -102,7 +102,7 @@ accepted_mid s mid op e is = is ∙ ap (λ (b : Answer). record s { held = held_
 counted_once : (s u : Held) (t : Tally) → SettlesTo s u → total (settling_counted s u t) + length u.waiting ≡ total t + length s.waiting
 counted_once s u t r = let g = reaches_grew s u r in omega (arith, g.later, g.together)
 
--- an accepted operation, and all of the settling behind it
+-- an accepted operation, and all of the settling after it
 pub accepted_fed : (s mid new : State) (op : Op) (before after : Tally) → answer s.hold s.most s.held op ≡ Accepted
     → mid ≡ record s { held = held_after (answer s.hold s.most s.held op) s.held op }
     → SettlesOn mid new (answer_counted Accepted before) after → IsSettled new.held → IsFedState s op before new after
@@ -119,7 +119,7 @@ accepted_fed s mid new op before after e is so settled =
           ∙ omega (arith, ap (λ (h : Held). length h.waiting) held_is);
     }
 
--- an accepted operation, and some of the settling behind it
+-- an accepted operation, and some of the settling after it
 pub accepted_partly : (s mid new : State) (op : Op) (before after : Tally) → answer s.hold s.most s.held op ≡ Accepted
     → mid ≡ record s { held = held_after (answer s.hold s.most s.held op) s.held op }
     → SettlesOn mid new (answer_counted Accepted before) after → JoinsNext new.held → LeavesAfterFault s new op before after FedNoMemory

@@ -5,13 +5,13 @@ use Rattle.std.specs.Prelude.{◌↔◌, All, Contains, Option, Some, flat_map, 
 use Rattle.std.proofs.lemmas.Bool.{false_from_ne_true, true≢false}
 use Rattle.std.proofs.lemmas.List.Elements.{All-cons, All-head, All-nil, All-tail, All-weaker}
 use Rattle.fugue_ids.specs.Identifiers.{Identifier, id_eq}
-use Rattle.fugue_ids.specs.Runs.{id_behind, ids_in_a_row, in_a_row, next_id, run_from, start_behind, text_by}
+use Rattle.fugue_ids.specs.Runs.{id_after, ids_in_a_row, in_a_row, next_id, run_from, start_after, text_by}
 use Rattle.fugue_ids.specs.declared.op.Op.{Op}
 use Rattle.fugue_ids.specs.declared.op.Op.TheVariants.{Text}
 use Rattle.fugue_ids.specs.declared.run.RunStart.{RunStart}
 use Rattle.fugue_ids.proofs.IdentifierLemmas.{id_eq-refl, ne-id_eq}
-use Rattle.fugue_ids.proofs.ListLemmas.{all_before, all_behind, all_from_contains}
-use Rattle.fugue_ids.proofs.RunLemmas.{length-typed, none_behind, one_behind}
+use Rattle.fugue_ids.proofs.ListLemmas.{all_before, all_after, all_from_contains}
+use Rattle.fugue_ids.proofs.RunLemmas.{length-typed, none_after, one_after}
 use Rattle.origin_model.specs.declared.taking.Tally.{Tally}
 use Rattle.origin_model.specs.edits.Effect.{with_ops}
 use Rattle.origin_model.specs.edits.RunLaws.{GoesIn}
@@ -35,7 +35,7 @@ use Rattle.replica_core.specs.declared.keeping.FeedFault.TheVariants.{NoMemory a
 use Rattle.replica_core.proofs.FeedLemmas.{fed_quietly}
 use Rattle.replica_core.proofs.JoinLemmas.{can_be_accepted, first_can}
 
--- One list behind another
+-- One list after another
 
 -- none yet
 pub takes_none_in : (s : State) (t : Tally) → IsSettled s.held → TakesInAll s s [] t t
@@ -47,10 +47,10 @@ takes_none_in s t settled = record {
   once = omega arith;
 }
 
--- what was kept of a list behind another
-pub kept_behind : (s mid : State) (a b : List Op) → mid ≡ record s { held = held_from s.hold s.most s.held a }
+-- what was kept of a list after another
+pub kept_after : (s mid : State) (a b : List Op) → mid ≡ record s { held = held_from s.hold s.most s.held a }
     → kept_from s.hold s.most s.held a ++ kept_from mid.hold mid.most mid.held b ≡ kept_from s.hold s.most s.held (a ++ b)
-kept_behind s mid a b is =
+kept_after s mid a b is =
     ap (λ (m : State). kept_from s.hold s.most s.held a ++ kept_from m.hold m.most m.held b) is ∙ kept-append s.hold s.most s.held a b
 
 -- one list and then another
@@ -81,7 +81,7 @@ takes_one s new op t u place is counted settled once = record {
   once = omega (arith, once);
 }
 
--- A fault behind operations that were taken in
+-- A fault after operations that were taken in
 
 -- at the first one
 pub stops_some : (s : State) (op : Op) (more : List Op) (t : Tally) (fault : FeedFault) → IsSettled s.held
@@ -91,8 +91,8 @@ stops_some s op more t fault settled many =
     record { front = []; op = op; more = more; parts = refl; reached = s; counts = t; taken = takes_none_in s t settled; too_many = many }
 
 -- further on
-pub some_behind : (s mid : State) (a b : List Op) (t u : Tally) (fault : FeedFault) → TakesInAll s mid a t u → TakesInSome b mid u fault → TakesInSome (a ++ b) s t fault
-some_behind s mid a b t u fault first some =
+pub some_after : (s mid : State) (a b : List Op) (t u : Tally) (fault : FeedFault) → TakesInAll s mid a t u → TakesInSome b mid u fault → TakesInSome (a ++ b) s t fault
+some_after s mid a b t u fault first some =
     let most : mid.most ≡ s.most = ap (λ (m : State). m.most) first.replica in
     record {
       front = a ++ some.front;
@@ -122,21 +122,21 @@ first_unkept s new op more t u kept kept_new fault settled many leaves unkept =
 -- one further on
 pub stops_on : (s mid new : State) (a b : List Op) (t u v : Tally) (fault : FeedFault) → TakesInAll s mid a t u → StopsFeeding b mid new u v fault
     → StopsFeeding (a ++ b) s new t v fault
-unfolding some_behind
-stops_on s mid new a b t u v fault first stops = record { some = some_behind s mid a b t u fault first stops.some; leaves = stops.leaves }
+unfolding some_after
+stops_on s mid new a b t u v fault first stops = record { some = some_after s mid a b t u fault first stops.some; leaves = stops.leaves }
 
 pub unkept_on : (s mid new : State) (a b : List Op) (t u v : Tally) (kept kept_mid kept_new : List Op) (fault : FeedFault) → TakesInAll s mid a t u
     → kept_mid ≡ kept ++ kept_from s.hold s.most s.held a
     → StopsKeeping b mid new u v kept_mid kept_new fault → StopsKeeping (a ++ b) s new t v kept kept_new fault
-unfolding some_behind
+unfolding some_after
 unkept_on s mid new a b t u v kept kept_mid kept_new fault first is stops =
     let front : List Op = stops.some.front in
     record {
-      some = some_behind s mid a b t u fault first stops.some;
+      some = some_after s mid a b t u fault first stops.some;
       leaves = stops.leaves;
       kept_are = stops.kept_are ∙ ap (λ (z : List Op). z ++ kept_from mid.hold mid.most mid.held front) is
           ∙ append_assoc kept (kept_from s.hold s.most s.held a) (kept_from mid.hold mid.most mid.held front)
-          ∙ ap (λ (z : List Op). kept ++ z) (kept_behind s mid a front first.replica);
+          ∙ ap (λ (z : List Op). kept ++ z) (kept_after s mid a front first.replica);
     }
 
 -- on the way through a run: the first letters were taken in, and these are left
@@ -169,7 +169,7 @@ length-run start text = length-typed start.id start.section start.left start.rig
 -- a front more
 pub fed_on : (s now new : State) (t counts after : Tally) (ops : List Op) (start next : RunStart) (text front rest : List ℕ) (n : ℕ) → IsFeeding s t ops now counts start text
     → n ≤ length text → TakesInAll now new (run_from start (take n text)) counts after → IsSound new → front ≡ take n text → rest ≡ drop n text
-    → run_from start text ≡ run_from start front ++ run_from next rest → (n < length text → next ≡ start_behind start n)
+    → run_from start text ≡ run_from start front ++ run_from next rest → (n < length text → next ≡ start_after start n)
     → IsFeeding s t ops new after next rest
 fed_on s now new t counts after ops start next text front rest n f within took sound is others whole behind =
     let run : List Op = run_from start (take n text) in
@@ -200,10 +200,10 @@ fed_all s now t counts ops next (c ∷ rest) f none = absurd (omega (arith, none
 -- not all
 pub fed_some : (s now new : State) (t counts after : Tally) (ops : List Op) (next : RunStart) (rest : List ℕ) (fault : FeedFault) → IsFeeding s t ops now counts next rest
     → StopsFeeding (run_from next rest) now new counts after fault → StopsFeeding ops s new t after fault
-unfolding some_behind
+unfolding some_after
 fed_some s now new t counts after ops next rest fault f stops =
     subst (λ (z : List Op). StopsFeeding z s new t after fault) (sym f.parts)
-    (record { some = some_behind s now f.done (run_from next rest) t counts fault f.taken stops.some; leaves = stops.leaves })
+    (record { some = some_after s now f.done (run_from next rest) t counts fault f.taken stops.some; leaves = stops.leaves })
 
 -- and what was kept of them
 pub record IsKeeping (s : State) (t : Tally) (kept ops : List Op) (now : State) (counts : Tally) (kept_now : List Op) (next : RunStart) (rest : List ℕ) : Type 0 where
@@ -220,7 +220,7 @@ pub kept_on : (s now new : State) (t counts after : Tally) (kept kept_now kept_n
     → n ≤ length text → TakesInAll now new (run_from start (take n text)) counts after → IsSound new
     → kept_new ≡ kept_now ++ kept_from now.hold now.most now.held (run_from start (take n text))
     → front ≡ take n text → rest ≡ drop n text
-    → run_from start text ≡ run_from start front ++ run_from next rest → (n < length text → next ≡ start_behind start n)
+    → run_from start text ≡ run_from start front ++ run_from next rest → (n < length text → next ≡ start_after start n)
     → IsKeeping s t kept ops new after kept_new next rest
 unfolding fed_on
 kept_on s now new t counts after kept kept_now kept_new ops start next text front rest n k within took sound more is others whole behind =
@@ -230,7 +230,7 @@ kept_on s now new t counts after kept kept_now kept_new ops start next text fron
       feeds = fed_on s now new t counts after ops start next text front rest n k.feeds within took sound is others whole behind;
       kept_are = more ∙ ap (λ (z : List Op). z ++ kept_from now.hold now.most now.held run) k.kept_are
           ∙ append_assoc kept (kept_from s.hold s.most s.held done) (kept_from now.hold now.most now.held run)
-          ∙ ap (λ (z : List Op). kept ++ z) (kept_behind s now done run k.feeds.taken.replica);
+          ∙ ap (λ (z : List Op). kept ++ z) (kept_after s now done run k.feeds.taken.replica);
     }
 
 pub kept_all : (s now : State) (t counts : Tally) (kept kept_now ops : List Op) (next : RunStart) (rest : List ℕ) → IsKeeping s t kept ops now counts kept_now next rest
@@ -243,26 +243,26 @@ kept_all s now t counts kept kept_now ops next (c ∷ rest) k none = absurd (ome
 pub kept_some : (s now new : State) (t counts after : Tally) (kept kept_now kept_new ops : List Op) (next : RunStart) (rest : List ℕ) (fault : FeedFault)
     → IsKeeping s t kept ops now counts kept_now next rest
     → StopsKeeping (run_from next rest) now new counts after kept_now kept_new fault → StopsKeeping ops s new t after kept kept_new fault
-unfolding some_behind
+unfolding some_after
 kept_some s now new t counts after kept kept_now kept_new ops next rest fault k stops =
     let f = k.feeds in
     subst (λ (z : List Op). StopsKeeping z s new t after kept kept_new fault) (sym f.parts)
     (record {
-      some = some_behind s now f.done (run_from next rest) t counts fault f.taken stops.some;
+      some = some_after s now f.done (run_from next rest) t counts fault f.taken stops.some;
       leaves = stops.leaves;
       kept_are = stops.kept_are ∙ ap (λ (z : List Op). z ++ kept_from now.hold now.most now.held stops.some.front) k.kept_are
           ∙ append_assoc kept (kept_from s.hold s.most s.held f.done) (kept_from now.hold now.most now.held stops.some.front)
-          ∙ ap (λ (z : List Op). kept ++ z) (kept_behind s now f.done stops.some.front f.taken.replica);
+          ∙ ap (λ (z : List Op). kept ++ z) (kept_after s now f.done stops.some.front f.taken.replica);
     })
 
 -- A run that goes in at once
 
 -- what is so of each identifier of a run
-each_id : (P : Identifier → Type 0) (id : Identifier) (text : List ℕ) → ((k : ℕ) → k < length text → P (id_behind id k)) → All P (ids_in_a_row id text)
+each_id : (P : Identifier → Type 0) (id : Identifier) (text : List ℕ) → ((k : ℕ) → k < length text → P (id_after id k)) → All P (ids_in_a_row id text)
 each_id P id [] each = All-nil P
 each_id P id (c ∷ text) each =
-    All-cons P id (ids_in_a_row (next_id id) text) (subst P (none_behind id) (each 0 (omega arith)))
-    (each_id P (next_id id) text (λ k l. subst P (sym (one_behind id k)) (each (suc k) (omega (arith, l)))))
+    All-cons P id (ids_in_a_row (next_id id) text) (subst P (none_after id) (each 0 (omega arith)))
+    (each_id P (next_id id) text (λ k l. subst P (sym (one_after id k)) (each (suc k) (omega (arith, l)))))
 
 -- what operations neither have nor name is held by none of them
 unheld : (w : List Op) (x : Identifier) → (Contains (flat_map mentioned_ids w) x → ⊥) → holds w x ≡ false
@@ -276,22 +276,22 @@ unheld w x none = by_each w
         let named : List Identifier = map (λ named. named.0) (names o) in
         let own : is_own x o ≡ false = false_from_ne_true _ (λ t. true≢false (sym (id_eq-refl x) ∙
         first_of P x named (subst (λ z. All P (option_to_list z ++ named)) (own_id o x t) (all_before P (mentioned_ids o) (flat_map mentioned_ids w) a)))) in
-        holds-other o w x own ∙ by_each w (all_behind P (mentioned_ids o) (flat_map mentioned_ids w) a)
+        holds-other o w x own ∙ by_each w (all_after P (mentioned_ids o) (flat_map mentioned_ids w) a)
       where
         first_of : (P : Identifier → Type 0) (i : Identifier) (is : List Identifier) → All P (i ∷ is) → P i
         first_of P i is a = a 0 i (omega arith)
 
-unknown_run : (id s : Identifier) (l r : Option Identifier) (text : List ℕ) (w : List Op) → ((k : ℕ) → k < length text → Contains (flat_map mentioned_ids w) (id_behind id k) → ⊥)
+unknown_run : (id s : Identifier) (l r : Option Identifier) (text : List ℕ) (w : List Op) → ((k : ℕ) → k < length text → Contains (flat_map mentioned_ids w) (id_after id k) → ⊥)
     → All (IsUnknown w) (in_a_row id s l r text)
 unknown_run id s l r [] w each = All-nil (IsUnknown w)
 unknown_run id s l r (c ∷ text) w each =
-    let none : Contains (flat_map mentioned_ids w) id → ⊥ = λ m. each 0 (omega arith) (subst (Contains (flat_map mentioned_ids w)) (sym (none_behind id)) m) in
+    let none : Contains (flat_map mentioned_ids w) id → ⊥ = λ m. each 0 (omega arith) (subst (Contains (flat_map mentioned_ids w)) (sym (none_after id)) m) in
     All-cons (IsUnknown w) (Text id s l r c) (in_a_row (next_id id) s (Some id) r text) (
       unheld w id none,
       all_from_contains (λ i. id_eq id i ≡ false) (flat_map mentioned_ids w)
           (λ i m. ne-id_eq id i (λ e. none (subst (Contains (flat_map mentioned_ids w)) (sym e) m))),
     )
-    (unknown_run (next_id id) s (Some id) r text w (λ k l m. each (suc k) (omega (arith, l)) (subst (Contains (flat_map mentioned_ids w)) (one_behind id k) m)))
+    (unknown_run (next_id id) s (Some id) r text w (λ k l m. each (suc k) (omega (arith, l)) (subst (Contains (flat_map mentioned_ids w)) (one_after id k) m)))
 
 -- a run that is untouched and whose first letter is Ready does
 at_once : (s : State) (start : RunStart) (ch : ℕ) (text : List ℕ) → IsSound s → IsSettled s.held → AreUntouched s.held start.id (length (ch ∷ text))
@@ -299,7 +299,7 @@ at_once : (s : State) (start : RunStart) (ch : ℕ) (text : List ℕ) → IsSoun
     → length s.held.history + length s.held.waiting + length (ch ∷ text) ≤ s.most → GoesAtOnce s (run_from start (ch ∷ text))
 at_once s start ch text sound settled u ready room =
     let run : List Op = run_from start (ch ∷ text) in
-    let none : (k : ℕ) → k < length (ch ∷ text) → Contains (flat_map mentioned_ids s.held.waiting) (id_behind start.id k)
+    let none : (k : ℕ) → k < length (ch ∷ text) → Contains (flat_map mentioned_ids s.held.waiting) (id_after start.id k)
     → ⊥ = λ k l m. u.unnamed (record { k = k; within = l; found = m }) in
     let goes : GoesIn s.hold s.most s.held start ch text = runs_go_in_whole s.hold s.most s.held start ch text (record {
       lawful = sound.lawful;
@@ -359,7 +359,7 @@ joins_all s new ops t u n goes is many counted =
       once = omega (arith, waiting, totals);
     }
 
--- where memory is wanting for it, its first operation would be kept
+-- where memory runs out for it, its first operation would be kept
 pub stops_joining : (s new : State) (op : Op) (ops more : List Op) (t : Tally) → CanJoin s (op ∷ ops) → new ≡ s → StopsFeeding (op ∷ more) s new t t FedNoMemory
 unfolding stops_some
 stops_joining s new op ops more t can is =
@@ -380,7 +380,7 @@ stops_copying s new op ops more t kept kept_new can is same =
       kept_are = same ∙ sym (append-nil kept);
     }
 
--- a front of a run that goes in at once, and memory is wanting for it
+-- a front of a run that goes in at once, and memory runs out for it
 pub run_stops : (s new : State) (start : RunStart) (text : List ℕ) (n : ℕ) (t : Tally) → 0 < n → n ≤ length text → GoesAtOnce s (run_from start (take n text)) → new ≡ s
     → StopsFeeding (run_from start text) s new t t FedNoMemory
 run_stops s new start [] n t some within goes is = absurd (omega (arith, some, within))

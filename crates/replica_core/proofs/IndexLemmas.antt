@@ -18,11 +18,11 @@ use Rattle.replica_core.specs.Index.{ArePositions, IsUnnoted, as_position, newes
 use Rattle.stretch_map.specs.Rules.{AreFree, IsFollowedBy, later}
 use Rattle.stretch_map.specs.declared.follows.Position.{Position}
 use Rattle.fugue_ids.proofs.OrderLemmas.{id_cmp_total}
-use Rattle.fugue_ids.specs.Runs.{id_behind}
+use Rattle.fugue_ids.specs.Runs.{id_after}
 use Rattle.fugue_ids.proofs.ListLemmas.{slice_get-append, slice_get-seam}
 use Rattle.fugue_ids.proofs.OptionLemmas.{is_some-false}
 
--- the newest operation has the position behind the others
+-- the newest operation has the position after the others
 position-own : (test : Op → Bool) (op : Op) (h : List Op) → test op ≡ true → newest_position test (op ∷ h) ≡ Some (length h)
 position-own test op h e = rw (e, newest_position)
 
@@ -114,21 +114,21 @@ position_below test (op ∷ h) k e =
       | inr o ↦ let below = position_below test h k (sym (position-other test op h o) ∙ e) in omega (arith, below)
     ]
 
--- none comes behind that of the newest operation
+-- none comes after that of the newest operation
 pub last_own : (op : Op) (i : Identifier) (h : List Op) (m : FinMap id_cmp Position) → id_of op ≡ Some i → ArePositions m (op ∷ h)
     → IsFollowedBy (λ first p k. later p k) (get m) i → ⊥
 last_own op i h m own are f =
     let newest : newest_position (is_own i) (op ∷ h) ≡ Some (length h) = position-own (is_own i) op h (own_is op i i own ∙ id_eq-refl i) in
     let at : Some (as_position (length h)) ≡ Some f.value = ap (option_map as_position) (sym newest) ∙ sym (are i) ∙ f.held in
     let here : length h ≡ f.value.at = let same : as_position (length h) ≡ f.value = cc in ap (λ p. p.at) same in
-    behind (newest_position (is_own (id_behind i 1)) (op ∷ h)) refl (sym (are (id_behind i 1)) ∙ f.followed) here
+    behind (newest_position (is_own (id_after i 1)) (op ∷ h)) refl (sym (are (id_after i 1)) ∙ f.followed) here
   where
-    behind : (o : Option ℕ) → newest_position (is_own (id_behind i 1)) (op ∷ h) ≡ o → option_map as_position o ≡ Some (later f.value 1) → length h ≡ f.value.at → ⊥
+    behind : (o : Option ℕ) → newest_position (is_own (id_after i 1)) (op ∷ h) ≡ o → option_map as_position o ≡ Some (later f.value 1) → length h ≡ f.value.at → ⊥
     behind None is e here = cc
     behind (Some k) is e here =
         let same : as_position k ≡ later f.value 1 = cc in
         let next : k ≡ f.value.at + 1 = ap (λ p. p.at) same in
-        let below : k < suc (length h) = position_below (is_own (id_behind i 1)) (op ∷ h) k is in
+        let below : k < suc (length h) = position_below (is_own (id_after i 1)) (op ∷ h) k is in
         omega (arith, next, below, here)
 
 -- at the position of an identifier stands its holder
@@ -175,7 +175,7 @@ held_by_position m h x are = ap is_some (are x) ∙ is_some-as (newest_position 
 
 -- identifiers without positions are not held
 pub free_unheld : (m : FinMap id_cmp Position) (h : List Op) (first : Identifier) (n : ℕ) → ArePositions m h → AreFree (get m) first n → AreUnheld h first n
-free_unheld m h first n are free k less = sym (held_by_position m h (id_behind first k) are) ∙ ap is_some (free k less)
+free_unheld m h first n are free k less = sym (held_by_position m h (id_after first k) are) ∙ ap is_some (free k less)
 
 pub unheld_free : (m : FinMap id_cmp Position) (h : List Op) (first : Identifier) (n : ℕ) → ArePositions m h → AreUnheld h first n → AreFree (get m) first n
-unheld_free m h first n are unheld k less = is_some-false (get m (id_behind first k)) (held_by_position m h (id_behind first k) are ∙ unheld k less)
+unheld_free m h first n are unheld k less = is_some-false (get m (id_after first k)) (held_by_position m h (id_after first k) are ∙ unheld k less)

@@ -54,7 +54,7 @@ pub first_can : (s : State) (op : Op) (rest : List Op) → CanJoin s (op ∷ res
 first_can s op rest can =
     record { settled = can.settled; in_turn = (can.in_turn.0, can.in_turn.1, can.in_turn.2, tt); room = omega (arith, can.room) }
 
--- the operations of a state stand behind the accepted ones
+-- the operations of a state stand after the accepted ones
 pub gains : (old new : State) (ops : List Op) → new ≡ with_ops old ops → Gains old new ops
 gains old new ops is = record { accepted_are = ap (λ s. accepted s.held.history) is ∙ join_at_end old.held.history ops; others = is }
 

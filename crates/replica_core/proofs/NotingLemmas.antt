@@ -11,11 +11,11 @@ use Rattle.std.specs.FinMap.{FinMap, get}
 use Rattle.std.proofs.lemmas.Bool.{false_from_ne_true, true≢false}
 use Rattle.std.proofs.lemmas.List.{reverse-reverse}
 use Rattle.fugue_ids.specs.Identifiers.{Identifier, id_cmp}
-use Rattle.fugue_ids.specs.Runs.{id_behind, in_a_row, left_behind, next_id, run_from, start_behind, text_by}
+use Rattle.fugue_ids.specs.Runs.{id_after, in_a_row, left_after, next_id, run_from, start_after, text_by}
 use Rattle.fugue_ids.specs.declared.op.Op.{Op}
 use Rattle.fugue_ids.specs.declared.op.Op.TheVariants.{Delete, Text}
 use Rattle.fugue_ids.specs.declared.run.RunStart.{RunStart}
-use Rattle.fugue_ids.proofs.RunLemmas.{none_behind, one_behind, typed-append}
+use Rattle.fugue_ids.proofs.RunLemmas.{none_after, one_after, typed-append}
 use Rattle.origin_model.specs.edits.Edits.{ReadyInTurn, history_with}
 use Rattle.origin_model.specs.operations.History.{has_op, holds}
 use Rattle.origin_model.proofs.SharedLemmas.{has-append, holds-older, ready_is_new}
@@ -23,7 +23,7 @@ use Rattle.origin_model.proofs.edits.MadeLemmas.{extended-append, join_at_end}
 use Rattle.stretch_map.specs.Rules.{AreFree}
 use Rattle.stretch_map.specs.declared.follows.Position.{Position}
 use Rattle.op_runs.specs.Deletions.{deletes_up}
-use Rattle.op_runs.specs.Repeats.{same_front}
+use Rattle.op_runs.specs.CommonPrefix.{common_prefix}
 use Rattle.replica_core.specs.Due.{newest_id}
 use Rattle.replica_core.specs.Index.{ArePositions, sections_and_notes, with_positions}
 use Rattle.replica_core.proofs.FeedingLemmas.{length-front, length-run}
@@ -32,13 +32,13 @@ use Rattle.replica_core.proofs.RunLemmas.{length-extended}
 
 -- the identifiers of a run that is Ready in its turn are not held
 run_unheld : (id s : Identifier) (l r : Option Identifier) (text : List ℕ) (h : List Op) (k : ℕ) → ReadyInTurn h (in_a_row id s l r text) → k < length text
-    → holds h (id_behind id k) ≡ false
+    → holds h (id_after id k) ≡ false
 run_unheld id s l r [] h k ready less = absurd (omega (arith, less))
-run_unheld id s l r (c ∷ text) h zero ready less = ap (holds h) (none_behind id) ∙ ready_is_new h (Text id s l r c) id ready.0 refl
+run_unheld id s l r (c ∷ text) h zero ready less = ap (holds h) (none_after id) ∙ ready_is_new h (Text id s l r c) id ready.0 refl
 run_unheld id s l r (c ∷ text) h (suc k) ready less =
     let first : Op = Text id s l r c in
-    let later : holds (first ∷ h) (id_behind (next_id id) k) ≡ false = run_unheld (next_id id) s (Some id) r text (first ∷ h) k ready.1 (omega (arith, less)) in
-    false_from_ne_true _ (λ t. true≢false (sym (holds-older first h (id_behind id (suc k)) t) ∙ ap (holds (first ∷ h)) (sym (one_behind id k)) ∙ later))
+    let later : holds (first ∷ h) (id_after (next_id id) k) ≡ false = run_unheld (next_id id) s (Some id) r text (first ∷ h) k ready.1 (omega (arith, less)) in
+    false_from_ne_true _ (λ t. true≢false (sym (holds-older first h (id_after id (suc k)) t) ∙ ap (holds (first ∷ h)) (sym (one_after id k)) ∙ later))
 
 -- so they have no positions
 pub run_free : (m : FinMap id_cmp Position) (h : List Op) (start : RunStart) (text : List ℕ) → ArePositions m h → ReadyInTurn h (run_from start text)
@@ -61,15 +61,15 @@ take_more (c ∷ text) (suc n) less = ap (λ z. c ∷ z) (take_more text n (omeg
 
 -- one letter more
 one_more : (h : List Op) (start : RunStart) (text : List ℕ) (n : ℕ) → n < length text
-    → history_with h (run_from start (take (suc n) text)) ≡ text_by (start_behind start n) (get_or text n 0) ∷ history_with h (run_from start (take n text))
+    → history_with h (run_from start (take (suc n) text)) ≡ text_by (start_after start n) (get_or text n 0) ∷ history_with h (run_from start (take n text))
 one_more h start text n less =
     let front : List ℕ = take n text in
     let ch : ℕ = get_or text n 0 in
     let len : length front ≡ n = length-front text n (omega (arith, less)) in
     ap (λ z. history_with h (run_from start z)) (take_more text n less)
     ∙ ap (history_with h) (typed-append start.id start.section start.left start.right front (ch ∷ []))
-    ∙ (λ i. history_with h (run_from start front ++ in_a_row (id_behind start.id (len i)) start.section (left_behind start.left start.id (len i)) start.right (ch ∷ [])))
-    ∙ extended-append h (run_from start front) (text_by (start_behind start n) ch ∷ [])
+    ∙ (λ i. history_with h (run_from start front ++ in_a_row (id_after start.id (len i)) start.section (left_after start.left start.id (len i)) start.right (ch ∷ [])))
+    ∙ extended-append h (run_from start front) (text_by (start_after start n) ch ∷ [])
 
 letters_noted : (m : FinMap id_cmp Position) (h : List Op) (start : RunStart) (text : List ℕ) (n : ℕ) → n ≤ length text → ArePositions m h
     → ArePositions (with_positions start.id (length h) n m) (history_with h (run_from start (take n text)))
@@ -82,8 +82,8 @@ letters_noted m h start text (suc n) within are =
     let b : length (run_from start front) ≡ length front = length-run start front in
     let c : length front ≡ n = length-front text n (omega (arith, within)) in
     subst (ArePositions (with_positions start.id (length h) (suc n) m)) (sym (one_more h start text n less))
-    (noted_own (text_by (start_behind start n) (get_or text n 0)) before (with_positions start.id (length h) n m)
-    (with_positions start.id (length h) (suc n) m) (id_behind start.id n) (length h + n) refl refl (letters_noted m h start text n (omega (arith, within)) are)
+    (noted_own (text_by (start_after start n) (get_or text n 0)) before (with_positions start.id (length h) n m)
+    (with_positions start.id (length h) (suc n) m) (id_after start.id n) (length h + n) refl refl (letters_noted m h start text n (omega (arith, within)) are)
     (omega (arith, a, b, c)))
 
 -- the positions of a run
@@ -135,31 +135,31 @@ history_has ops more there = All-weaker (λ o. has_op ops o ≡ true) (λ o. has
 
 -- How far a list has the operations of another one
 
-front_within : (xs ys : List Op) → same_front xs ys ≤ length ys
+front_within : (xs ys : List Op) → common_prefix xs ys ≤ length ys
 front_within [] ys = omega arith
 front_within (x ∷ xs) [] = omega arith
 front_within (x ∷ xs) (y ∷ ys) =
     elim (cases_Bool (op_eq x y)) [
-      | inl e ↦ rw (e, same_front) (let r = front_within xs ys in omega (arith, r))
-      | inr e ↦ rw (e, same_front) (omega arith)
+      | inl e ↦ rw (e, common_prefix) (let r = front_within xs ys in omega (arith, r))
+      | inr e ↦ rw (e, common_prefix) (omega arith)
     ]
 
-front_has : (xs ys : List Op) → All (λ o. has_op xs o ≡ true) (take (same_front xs ys) ys)
+front_has : (xs ys : List Op) → All (λ o. has_op xs o ≡ true) (take (common_prefix xs ys) ys)
 front_has [] ys = All-nil (λ o. has_op [] o ≡ true)
 front_has (x ∷ xs) [] = All-nil (λ o. has_op (x ∷ xs) o ≡ true)
 front_has (x ∷ xs) (y ∷ ys) =
     elim (cases_Bool (op_eq x y)) [
-      | inl e ↦ subst (λ b. All (λ o. has_op (x ∷ xs) o ≡ true) (take (if b then suc (same_front xs ys) else 0) (y ∷ ys))) (sym e)
-          (All-cons (λ o. has_op (x ∷ xs) o ≡ true) y (take (same_front xs ys) ys) (or_left _ _ e)
-          (All-weaker (λ o. has_op xs o ≡ true) (λ o. has_op (x ∷ xs) o ≡ true) (λ o there. or_right _ _ there) (take (same_front xs ys) ys) (front_has xs ys)))
-      | inr e ↦ subst (λ b. All (λ o. has_op (x ∷ xs) o ≡ true) (take (if b then suc (same_front xs ys) else 0) (y ∷ ys))) (sym e) (All-nil (λ o. has_op (x ∷ xs) o ≡ true))
+      | inl e ↦ subst (λ b. All (λ o. has_op (x ∷ xs) o ≡ true) (take (if b then suc (common_prefix xs ys) else 0) (y ∷ ys))) (sym e)
+          (All-cons (λ o. has_op (x ∷ xs) o ≡ true) y (take (common_prefix xs ys) ys) (or_left _ _ e)
+          (All-weaker (λ o. has_op xs o ≡ true) (λ o. has_op (x ∷ xs) o ≡ true) (λ o there. or_right _ _ there) (take (common_prefix xs ys) ys) (front_has xs ys)))
+      | inr e ↦ subst (λ b. All (λ o. has_op (x ∷ xs) o ≡ true) (take (if b then suc (common_prefix xs ys) else 0) (y ∷ ys))) (sym e) (All-nil (λ o. has_op (x ∷ xs) o ≡ true))
     ]
 
--- what stands behind others in a list is in it
-behind_has : (k : ℕ) (ops : List Op) (op : Op) → has_op (drop k ops) op ≡ true → has_op ops op ≡ true
-behind_has zero ops op there = there
-behind_has (suc k) [] op there = there
-behind_has (suc k) (o ∷ ops) op there = or_right _ _ (behind_has k ops op there)
+-- what stands after others in a list is in it
+after_has : (k : ℕ) (ops : List Op) (op : Op) → has_op (drop k ops) op ≡ true → has_op ops op ≡ true
+after_has zero ops op there = there
+after_has (suc k) [] op there = there
+after_has (suc k) (o ∷ ops) op there = or_right _ _ (after_has k ops op there)
 
 -- the first letters of a run
 front_of_run : (start : RunStart) (text : List ℕ) (n : ℕ) → take n (run_from start text) ≡ run_from start (take n text)
@@ -173,7 +173,7 @@ front_of_run start text n = in_row n start.id start.section start.left start.rig
 -- the letters at the front of a run that the list has from a position on
 module _ (ops : List Op) (position : ℕ) (start : RunStart) (text : List ℕ) where
   abbrev count : ℕ
-  count = same_front (drop position ops) (run_from start text)
+  count = common_prefix (drop position ops) (run_from start text)
 
   pub repeated_within : count ≤ length text
   repeated_within = omega (arith, front_within (drop position ops) (run_from start text), length-run start text)
@@ -182,7 +182,7 @@ module _ (ops : List Op) (position : ℕ) (start : RunStart) (text : List ℕ) w
   repeated_there =
       history_has ops (run_from start (take count text))
       (subst (All (λ o. has_op ops o ≡ true)) (front_of_run start text count)
-      (All-weaker (λ o. has_op (drop position ops) o ≡ true) (λ o. has_op ops o ≡ true) (behind_has position ops) (take count (run_from start text))
+      (All-weaker (λ o. has_op (drop position ops) o ≡ true) (λ o. has_op ops o ≡ true) (after_has position ops) (take count (run_from start text))
       (front_has (drop position ops) (run_from start text))))
 
 -- The last operation goes
@@ -219,9 +219,9 @@ newest_last ops found is = ap (option_and_then id_of) (newest_found ops found is
     of_first [] = refl
     of_first (op ∷ h) = refl
 
--- an operation stands behind a list: in the history it is the newest
-pub newest_behind : (ops new : List Op) (op : Op) → ops ≡ new ++ op ∷ [] → reverse ops ≡ op ∷ reverse new
-newest_behind ops new op is = ap reverse is ∙ reverse-append new (op ∷ [])
+-- an operation stands after a list: in the history it is the newest
+pub newest_after : (ops new : List Op) (op : Op) → ops ≡ new ++ op ∷ [] → reverse ops ≡ op ∷ reverse new
+newest_after ops new op is = ap reverse is ∙ reverse-append new (op ∷ [])
 
 pub last_found : (ops : List Op) (op : Op) → Some op ≡ slice_get (reverse ops) 0 → Some op ≡ slice_get ops (length ops - 1)
 last_found ops op is = is ∙ sym (newest_found ops (slice_get ops (length ops - 1)) refl)

@@ -9,7 +9,7 @@ use Rattle.origin_model.specs.edits.Refusal.{next_of_own, refused_elements, refu
 use Rattle.origin_model.specs.edits.State.{State, all_ops}
 use Rattle.origin_model.specs.declared.edit_fault.EditFault.TheVariants.{IdsSpent}
 
--- the next counter is behind the greatest one
+-- the next counter is after the greatest one
 pub next_is : (s : State) (greatest : Option ℕ) (next : ℕ) → IsGreatest (counters s.number (all_ops s.held)) greatest → next ≡ next_above greatest → next ≡ next_of_own s
 next_is s greatest next is value = value ∙ sym (next_by_greatest s.number s.held.history s.held.waiting greatest is)
 

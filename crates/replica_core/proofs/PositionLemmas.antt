@@ -19,10 +19,10 @@ none_passes p xs e =
       | inr b ↦ λ k d below. let past : length xs ≤ position_or_len p xs = ltb-false _ _ b in fails_before_first p xs k d (omega (arith, past, below))
     ]
 
--- where none of the first ones passes, the first that does is found behind them
-pub found_behind : {X : Type 0} (p : X → Bool) (xs : List X) (c : ℕ) (d : X) → c ≤ length xs → ((k : ℕ) → k < c → p (get_or xs k d) ≡ false)
+-- where none of the first ones passes, the first that does is found after them
+pub found_after : {X : Type 0} (p : X → Bool) (xs : List X) (c : ℕ) (d : X) → c ≤ length xs → ((k : ℕ) → k < c → p (get_or xs k d) ≡ false)
     → option_map (λ k. c + k) (position p (drop c xs)) ≡ position p xs
-found_behind {X = X} p xs c d within fails = elim (cases_Bool (ltb (position_or_len p (drop c xs)) (length (drop c xs)))) [
+found_after {X = X} p xs c d within fails = elim (cases_Bool (ltb (position_or_len p (drop c xs)) (length (drop c xs)))) [
   | inl e ↦
       let below : position_or_len p (drop c xs) < length (drop c xs) = ltb-true _ _ e in
       let all : ltb (position_or_len p xs) (length xs) ≡ true = lt-ltb _ _ (omega (arith, below, same, length-drop c xs)) in

@@ -173,7 +173,7 @@ stands_by_push s inbox new op waits holds answered is within t =
     subst (λ (w : List Op). IsSound (record s { held = record { history = s.held.history; waiting = w } })) (sym ops)
     (stands_waiting s op t (kept_new s.hold s.most s.held op (ap is_kept answered_waits)) fits)
 
--- an operation behind a list that differs from its members is not in it
+-- an operation after a list that differs from its members is not in it
 pub absent_before : (h rest : List Op) (k : ℕ) (x : Op) → slice_get rest k ≡ Some x → AllPairs (λ (a b : Op). a ≢ b) (h ++ rest) → has_op h x ≡ false
 absent_before [] rest k x at pairs = refl
 absent_before (o ∷ h) rest k x at pairs =
@@ -184,7 +184,7 @@ absent_before (o ∷ h) rest k x at pairs =
     (false_from_ne_true (op_eq o x) (λ same. apart (op_eq-true o x same ∙ sym (get_or_from_slice_get (h ++ rest) (length h + k) x x there))))
     (absent_before h rest k x at (λ i j d less below. pairs (suc i) (suc j) d (omega (arith, less)) (omega (arith, below))))
 
--- an identifier of an operation behind a list whose members have others is not held by it
+-- an identifier of an operation after a list whose members have others is not held by it
 unheld_before : (h rest : List Op) (k : ℕ) (x : Op) (i : Identifier) → slice_get rest k ≡ Some x → id_of x ≡ Some i → AllPairs HaveOtherIds (h ++ rest) → holds h i ≡ false
 unheld_before [] rest k x i at is pairs = refl
 unheld_before (o ∷ h) rest k x i at is pairs =

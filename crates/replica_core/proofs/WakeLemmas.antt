@@ -80,7 +80,7 @@ decided-older op x h absent unheld apart =
     let missing = missing-older op h (names x) apart in
     λ k. is_decided (first_line (again k) (taken k) (stray k) (missing k))
 
--- the same of an operation that waits behind the history
+-- the same of an operation that waits after the history
 waiting-older : (op : Op) (h w : List Op) → AllPairs (λ (a b : Op). a ≢ b) ((op ∷ h) ++ w) → AllPairs HaveOtherIds ((op ∷ h) ++ w)
     → All (λ x. NamesNot op (names x) → decided_on (op ∷ h) x ≡ decided_on h x) w
 waiting-older op h w once own_ids k d below apart =
@@ -106,9 +106,9 @@ naming-yes at i x ops e = rw (e, positions_from)
 naming-no : (at : ℕ) (i : Identifier) (x : Op) (ops : List Op) → is_naming i x ≡ false → positions_from at (is_naming i) (x ∷ ops) ≡ positions_from (suc at) (is_naming i) ops
 naming-no at i x ops e = rw (e, positions_from)
 
-member_behind : (front : List Op) (x : Op) (ops : List Op) (at : ℕ) → length front ≡ at → slice_get (front ++ x ∷ ops) at ≡ Some x
-member_behind [] x ops at e = ap (slice_get (x ∷ ops)) (sym e)
-member_behind (o ∷ front) x ops at e = ap (slice_get (o ∷ (front ++ x ∷ ops))) (sym e) ∙ member_behind front x ops (length front) refl
+member_after : (front : List Op) (x : Op) (ops : List Op) (at : ℕ) → length front ≡ at → slice_get (front ++ x ∷ ops) at ≡ Some x
+member_after [] x ops at e = ap (slice_get (x ∷ ops)) (sym e)
+member_after (o ∷ front) x ops at e = ap (slice_get (o ∷ (front ++ x ∷ ops))) (sym e) ∙ member_after front x ops (length front) refl
 
 -- the marks of those that rest on the identifier are tried, the others are right
 tried_all : (f g : Op → Bool) (i : Identifier) (whole front ops : List Op) (at : ℕ) (before marks : List Bool)
@@ -130,7 +130,7 @@ tried_all f g i whole front (x ∷ ops) at before marks is at_front at_before ma
     ∙ ap (λ (c : Bool). before ++ c ∷ map g ops) same in
     elim (cases_Bool (is_naming i x)) [
       | inl e ↦
-          let here : slice_get whole at ≡ Some x = ap (λ (l : List Op). slice_get l at) is ∙ member_behind front x ops at at_front in
+          let here : slice_get whole at ≡ Some x = ap (λ (l : List Op). slice_get l at) is ∙ member_after front x ops at at_front in
           let now : tried g whole at marks ≡ before ++ g x ∷ map f ops =
           tried-some g whole at marks x here ∙ ap (λ (l : List Bool). set l at (g x)) marked ∙ set_at before (f x) (map f ops) (g x) at at_before in
           ap (λ (positions : List ℕ). all_tried g whole positions marks) (naming-yes at i x ops e) ∙ go (g x) (tried g whole at marks) refl now
@@ -214,7 +214,7 @@ drop-none [] (suc k) e = refl
 drop-none (x ∷ positions) zero e = cc
 drop-none (x ∷ positions) (suc k) e = drop-none positions k e
 
--- trying one leaves those behind it to be tried
+-- trying one leaves those after it to be tried
 pub next_tried : (test : Op → Bool) (ops : List Op) (positions : List ℕ) (k p : ℕ) (marks : List Bool) (op : Op) → slice_get positions k ≡ Some p → slice_get ops p ≡ Some op
     → all_tried test ops (drop k positions) marks ≡ all_tried test ops (drop (k + 1) positions) (set marks p (test op))
 next_tried test ops positions k p marks op at here =

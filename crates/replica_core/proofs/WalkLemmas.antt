@@ -1,4 +1,4 @@
--- A walk over the Sections and Notes alone. What holds before an operation, and is not changed by those between them, holds behind all.
+-- A walk over the Sections and Notes alone. What holds before an operation, and is not changed by those between them, holds after all.
 use Rattle.std.proofs.Common.{Bool, List, [], ap, append_assoc, arith, drop, false, get_or, inl, inr, length, refl, reverse, subst, suc, sym, take, ℕ, ◌+◌, ◌++◌, ◌<◌, ◌∙◌, ◌∷◌}
 use Rattle.std.proofs.Common.{◌≡◌, ◌≤◌}
 use Rattle.std.proofs.lemmas.Bool.{cases_Bool}
@@ -139,11 +139,11 @@ module _ (P : ℕ → Type 0) (ops : List Op)
         reach (drop w.at ops) w.at positions (drop (k + 1) positions) k (get_or positions k 0) refl w.holds
         (sym (drop_more positions k 0 below) ∙ w.left) refl
 
-    -- all is passed behind the last position
+    -- all is passed after the last position
     pub walk_ends : (positions : List ℕ) (k : ℕ) → length positions ≤ k → Walks P ops positions k → P (length ops)
     walk_ends positions k all w = finish (drop w.at ops) w.at w.within refl w.holds (sym (drop_all k positions all) ∙ w.left)
 
--- the walk goes on behind the operation at which it stands, with what holds there
+-- the walk goes on after the operation at which it stands, with what holds there
 pub walk_goes_on : (P Q : ℕ → Type 0) (ops : List Op) (positions : List ℕ) (k p : ℕ) → StandsAt P ops positions k p → Q (p + 1) → Walks Q ops positions (k + 1)
 walk_goes_on P Q ops positions k p s holds =
     let on : p + 1 ≡ suc p = omega arith in

@@ -7,7 +7,7 @@ use Rattle.std.specs.Ordering.{is_eq}
 use Rattle.std.proofs.lemmas.Bool.{cases_Bool}
 use Rattle.std.proofs.lemmas.List.Elements.{All-head, All-tail}
 use Rattle.fugue_ids.specs.Identifiers.{Identifier, id_cmp}
-use Rattle.fugue_ids.specs.Runs.{id_behind, in_a_row, next_id}
+use Rattle.fugue_ids.specs.Runs.{id_after, in_a_row, next_id}
 use Rattle.fugue_ids.specs.declared.op.Op.{Op}
 use Rattle.fugue_ids.specs.declared.op.Op.TheVariants.{Delete, Text}
 use Rattle.fugue_ids.proofs.IdentifierLemmas.{cases_id, eq-id_eq, id_at-other, id_at-same, ne-id_eq}
@@ -94,7 +94,7 @@ pub front_withdrawn : (w : FinMap id_cmp Same) (count k : ℕ) (x s : Identifier
 front_withdrawn w count k x s h l ready inside are =
     let e : count ≡ k + (count - k) = omega (arith, l) in
     row_withdrawn k w x s h (fewer_ready count k x h l ready)
-    (all_before (λ y. IsIn (within s) h y) (ids_from x k) (ids_from (id_behind x k) (count - k)) (subst (AreWithin s h) (ap (ids_from x) e ∙ ids_parted k (count - k) x) inside))
+    (all_before (λ y. IsIn (within s) h y) (ids_from x k) (ids_from (id_after x k) (count - k)) (subst (AreWithin s h) (ap (ids_from x) e ∙ ids_parted k (count - k) x) inside))
     are
 
 -- a note whose Delete is Ready is not withdrawn yet

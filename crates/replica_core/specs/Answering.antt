@@ -18,7 +18,7 @@ use Rattle.replica_core.specs.declared.keeping.FeedFault.TheVariants.{TooMany as
 use Rattle.replica_core.specs.Settling.{SettlesTo}
 use Rattle.origin_model.specs.edits.State.{State}
 
--- a delivery tells its answer, and a refusal hands the operation back: want of memory comes only where it would be kept
+-- a delivery tells its answer, and a refusal hands the operation back: an allocation failure comes only where it would be kept
 abbrev pub Answers : (hold most : ℕ) → Op → Answer → Result Taken DeliverFault → Type 0
 Answers hold most op a (Ok TakenAccepted) = a ≡ Accepted
 Answers hold most op a (Ok TakenWaits) = a ≡ Waits
@@ -64,7 +64,7 @@ pub record StandsPartly (hold most : ℕ) (old new : Held) (op : Op) (before aft
   pub stopped : JoinsNext new
   pub goes_on : settle new ≡ intake hold most old op
 
--- what a fault of `feed` leaves: want of memory comes only where the operation would be kept
+-- what a fault of `feed` leaves: an allocation failure comes only where the operation would be kept
 abbrev pub LeavesAfterFault : (old new : State) → Op → (before after : Tally) → FeedFault → Type 0
 LeavesAfterFault old new op before after (FedTooMany limit) = (limit ≡ old.most) × (new ≡ old) × (after ≡ before)
 LeavesAfterFault old new op before after FedNoMemory =
@@ -82,7 +82,7 @@ pub record SettlesOn (old new : State) (before after : Tally) : Type 0 where
   pub counted : after ≡ settling_counted old.held new.held before
   pub others : new ≡ record old { held = new.held }
 
--- settling went to its end, or stopped for want of memory, before a waiting operation that joins
+-- settling went to its end, or stopped for lack of memory, before a waiting operation that joins
 pub record SettlesOrStops {T E : Type 0} (old new : State) (before after : Tally) (result : Result T E) : Type 0 where
   pub way : SettlesOn old new before after
   pub ended : OnOk result (IsSettled new.held)

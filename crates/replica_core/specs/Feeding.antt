@@ -1,7 +1,7 @@
 -- Taking in operations one after another by one call, as the Texts of a run or Deletes of neighbours.
 use Rattle.std.specs.Prelude.{◌≡◌, ◌↔◌, ◌<◌, ◌+◌, ◌++◌, ◌∷◌, List, false, length, ℕ}
 use Rattle.fugue_ids.specs.Identifiers.{Identifier}
-use Rattle.fugue_ids.specs.Runs.{id_behind}
+use Rattle.fugue_ids.specs.Runs.{id_after}
 use Rattle.fugue_ids.specs.declared.op.Op.{Op}
 use Rattle.origin_model.specs.declared.taking.Tally.{Tally}
 use Rattle.origin_model.specs.operations.History.{holds}
@@ -17,7 +17,7 @@ use Rattle.replica_core.specs.Answering.{LeavesAfterFault, total}
 
 -- none of the n identifiers from this one on is held
 abbrev pub AreUnheld : List Op → Identifier → ℕ → Type 0
-AreUnheld history first n = (k : ℕ) → k < n → holds history (id_behind first k) ≡ false
+AreUnheld history first n = (k : ℕ) → k < n → holds history (id_after first k) ≡ false
 
 -- nothing accepted has one of the n identifiers from this one on, and nothing that waits has or names one
 pub record AreUntouched (s : Held) (first : Identifier) (n : ℕ) : Type 0 where
@@ -50,7 +50,7 @@ pub record StopsFeeding (ops : List Op) (old new : State) (before after : Tally)
   pub leaves : LeavesAfterFault some.reached new some.op some.counts after fault
 
 -- a fault of `feed_run_keeping` or `feed_deletes_keeping`: the operation left what its own fault of `feed_keeping`
--- leaves, and what was kept of those before it is behind the kept ones
+-- leaves, and what was kept of those before it is after the kept ones
 pub record StopsKeeping (ops : List Op) (old new : State) (before after : Tally) (kept kept_after : List Op)
     (fault : FeedFault) : Type 0 where
   pub some : TakesInSome ops old before fault

@@ -9,7 +9,7 @@ use Rattle.replica_core.specs.declared.keeping.FeedFault.TheVariants.{TooMany as
 use Rattle.origin_model.specs.edits.State.{State}
 use Rattle.replica_core.specs.Answering.{StandsPartly, total}
 
--- the operation was taken in and counted, and is behind the kept ones where it was kept
+-- the operation was taken in and counted, and is after the kept ones where it was kept
 pub record TakesInKeeping (old new : State) (op : Op) (before after : Tally) (kept kept_after : List Op) : Type 0 where
   pub replica : new ≡ record old { held = intake old.hold old.most old.held op }
   pub settled : IsSettled new.held
@@ -17,8 +17,8 @@ pub record TakesInKeeping (old new : State) (op : Op) (before after : Tally) (ke
   pub once : total after + length new.held.waiting ≡ total before + length old.held.waiting + 1
   pub kept_are : kept_after ≡ kept ++ kept_from old.hold old.most old.held (op ∷ [])
 
--- Nothing changed, or the operation stands and settling stopped on its way. Want of memory may come before it is known
--- what the answer is, but an operation that is one too many is never reported as want of memory.
+-- Nothing changed, or the operation stands and settling stopped on its way. An allocation failure may come before it
+-- is known what the answer is, but an operation that is one too many is never reported as an allocation failure.
 abbrev pub LeavesUnkept : (old new : State) → Op → (before after : Tally) → FeedFault → Type 0
 LeavesUnkept old new op before after (FedTooMany limit) =
     (limit ≡ old.most) × (answer old.hold old.most old.held op ≡ TooMany) × (new ≡ old) × (after ≡ before)
@@ -44,7 +44,7 @@ pub record TakesIn (old new : OpsTaking) (ops : List Op) : Type 0 where
   pub counts : new.counts ≡ tally_from old.replica.hold old.replica.most old.replica.held ops old.counts
   pub kept : new.kept ≡ old.kept ++ kept_from old.replica.hold old.replica.most old.replica.held ops
 
--- memory was wanting while the operation, which stands already, settled others
+-- memory ran out while the operation, which stands already, settled others
 pub record TakesPartly (old new : OpsTaking) (op : Op) : Type 0 where
   pub replica : new.replica ≡ record old.replica { held = new.replica.held }
   pub partly : StandsPartly old.replica.hold old.replica.most old.replica.held new.replica.held op old.counts new.counts

@@ -1,4 +1,4 @@
--- What a replica keeps, while it takes operations in too.
+-- Invariants of a replica, between calls and while it takes operations in.
 use Rattle.std.specs.Prelude.{◌≡◌, ℕ, Bool, List}
 use Rattle.fugue_ids.specs.declared.op.Op.{Op}
 use Rattle.causal_inbox.specs.Waiting.{OpenWaiting}

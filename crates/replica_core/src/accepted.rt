@@ -69,7 +69,8 @@ impl Model for Accepted {
     } };
 }
 
-/// Takes an operation that stands in a place and is Ready into the manuscript. After want of memory that is as before.
+/// Takes an operation that stands in a place and is Ready into the manuscript. After an allocation failure that is as
+/// before.
 fn take_in(manuscript: &mut Manuscript, op: &OpRef<'_>) -> Result<(), NoMemory>
     requires placed { IsSome (place_in (op_of op.now)) }
     requires ready { IsReadyOn manuscript.old (op_of op.now) }
@@ -85,7 +86,7 @@ fn take_in(manuscript: &mut Manuscript, op: &OpRef<'_>) -> Result<(), NoMemory>
 }
 
 /// Takes in a Delete that is Ready: an element is hidden in its place, and a note, which stands in none, joins the
-/// withdrawn ones. After want of memory all is as before.
+/// withdrawn ones. After an allocation failure all is as before.
 fn take_in_delete(
     manuscript: &mut Manuscript,
     withdrawn: &mut StretchMap<Same>,
@@ -148,7 +149,7 @@ impl Accepted {
         self.history.ops()
     }
 
-    /// Those that were accepted behind so many others.
+    /// Those that were accepted after so many others.
     pub fn from(&self, position: usize) -> OpSlice<'_>
         ensures { result ≡ drop position (accepted_list self.now) }
     {
@@ -162,7 +163,7 @@ impl Accepted {
         self.history.len()
     }
 
-    /// The one that was accepted behind so many others.
+    /// The one that was accepted after so many others.
     pub fn get(&self, position: usize) -> Option<OpRef<'_>>
         ensures { option_map op_of result ≡ slice_get (accepted_list self.now) position }
     {
@@ -205,7 +206,7 @@ impl Accepted {
         self.history.is_free(first, count)
     }
 
-    /// How many Texts at the front of a run are accepted already, one behind the other.
+    /// How many Texts at the front of a run are accepted already, one after the other.
     pub fn repeats(&self, start: &RunStart, text: &[char]) -> usize
         requires { start.now.id.counter + length text.now ≤ 2 ^ 32 }
         ensures within { result ≤ length text.now }
@@ -298,7 +299,7 @@ impl Accepted {
         }
     }
 
-    /// Takes in a Delete that is Ready. After want of memory all is as before.
+    /// Takes in a Delete that is Ready. After an allocation failure all is as before.
     fn accept_delete(&mut self, target: ElementId) -> Result<(), NoMemory>
         requires ready { verdict_on self.old (DeleteOf target) ≡ Ready }
         requires room { length self.old < MOST_OPERATIONS }
@@ -341,8 +342,8 @@ impl Accepted {
         }
     }
 
-    /// Takes in a run whose Texts are Ready in their turn, by one call on the places. After want of memory all is as
-    /// before.
+    /// Takes in a run whose Texts are Ready in their turn, by one call on the places. After an allocation failure all
+    /// is as before.
     pub fn accept_run(&mut self, start: &RunStart, text: &[char]) -> Result<(), NoMemory>
         requires some { 0 < length text.now }
         requires counters { start.now.id.counter + length text.now ≤ 2 ^ 32 }
@@ -361,8 +362,8 @@ impl Accepted {
         }
     }
 
-    /// Takes in the Deletes of so many elements of a section, from this identifier on, which are Ready in their turn, by
-    /// one call on the places. Want of memory leaves fewer taken in, and tells how many.
+    /// Takes in the Deletes of so many elements of a section, from this identifier on, which are Ready in their turn,
+    /// by one call on the places. An allocation failure leaves fewer taken in, and tells how many.
     pub fn accept_deletes(
         &mut self,
         section: &ElementId,

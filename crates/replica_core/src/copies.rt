@@ -13,7 +13,7 @@ pub trait Copies {
     /// The operations, in order.
     ghost ops: { Self → List AnyOp };
 
-    /// A copy more, behind all others. Without memory, or room in the list, all is as before.
+    /// A copy more, after all others. Without memory, or room in the list, all is as before.
     fn push_copy(&mut self, alloc: Global, op: &Op) -> Result<(), NoMemory>
         ensures ok { OnOk result (ops self.new ≡ ops self.old ++ op.now ∷ []) }
         ensures err { OnErr result (ops self.new ≡ ops self.old) };
@@ -66,7 +66,7 @@ fn room_in(copies: &OpRuns) -> usize
     (MOST_LISTED as usize).saturating_sub(copies.len())
 }
 
-/// The Texts of a run, behind all others. Without memory, or room in the list, all is as before.
+/// The Texts of a run, after all others. Without memory, or room in the list, all is as before.
 pub(crate) fn push_letters(
     copies: &mut OpRuns,
     start: &RunStart,
@@ -83,7 +83,7 @@ pub(crate) fn push_letters(
     copies.push_run(*start, text)
 }
 
-/// The Deletes of so many identifiers, from this one on, behind all others. Without memory, or room in the list, all is
+/// The Deletes of so many identifiers, from this one on, after all others. Without memory, or room in the list, all is
 /// as before.
 pub(crate) fn push_row(copies: &mut OpRuns, first: ElementId, count: u32) -> Result<(), NoMemory>
     requires some { 0 < count }

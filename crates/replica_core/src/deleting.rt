@@ -44,8 +44,8 @@ impl Replica {
         fed
     }
 
-    /// The same, and appends copies of those that were accepted or wait to `kept`, in order. Want of memory is also the
-    /// answer where `kept` is full: it has at most `MOST_LISTED` operations.
+    /// The same, and appends copies of those that were accepted or wait to `kept`, in order. An allocation failure is
+    /// also the answer where `kept` is full: it has at most `MOST_LISTED` operations.
     pub fn feed_deletes_keeping(
         &mut self,
         first: ElementId,
@@ -123,7 +123,7 @@ impl OpenReplica {
         Ok(())
     }
 
-    /// Feeds the Deletes at the front of a row that go in at once, or else the first one alone. The answer is how many.
+    /// Feeds the Deletes at the front of a row that go in at once, or else the first one alone. Returns how many.
     fn feed_deletes_front(
         &mut self,
         first: ElementId,

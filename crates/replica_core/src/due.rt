@@ -60,7 +60,7 @@ impl Due {
         if self.is_clear() {
             return None;
         }
-        let position = first_behind(&self.marks, self.clear)?;
+        let position = first_after(&self.marks, self.clear)?;
         self.clear = position;
         Some(position)
     }
@@ -90,7 +90,7 @@ impl Due {
         self.marks.put(position, mark);
     }
 
-    /// One mark less. Those behind it close up.
+    /// One mark less. Those after it close up.
     pub fn remove(&mut self, position: usize)
         requires { position < length self.old }
         ensures { self.new ≡ remove self.old position }
@@ -109,7 +109,7 @@ fn first_set(marks: &[bool]) -> Option<usize>
 }
 
 /// The same, where none of the first `clear` is.
-fn first_behind(marks: &Gapped<bool>, clear: usize) -> Option<usize>
+fn first_after(marks: &Gapped<bool>, clear: usize) -> Option<usize>
     requires within { clear ≤ length marks.now.items }
     requires front { IsClearBefore clear marks.now.items }
     ensures { result ≡ first_position (λ mark. mark) marks.now.items }

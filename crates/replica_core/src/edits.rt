@@ -18,8 +18,8 @@ use fugue_ids::{Body, NoteNames, Title};
 use origin_model::EditFault;
 
 impl Replica {
-    /// Puts a text into a section, before the shown element at the position or behind all of them. The answer is how
-    /// many operations were made.
+    /// Puts a text into a section, before the shown element at the position or after all of them. Returns how many
+    /// operations were made.
     pub fn put(&mut self, section: usize, at: usize, text: &str) -> Result<u32, EditFault>
         requires { IsSettled self.old.held }
         ensures made { IfOk result (λ n. IsMade self.old self.new (Put section at (chars text.now)) n) }
@@ -36,7 +36,7 @@ impl Replica {
         }
     }
 
-    /// Deletes n shown elements of a section, from the position on. The answer is how many operations were made.
+    /// Deletes n shown elements of a section, from the position on. Returns how many operations were made.
     pub fn cut(&mut self, section: usize, at: usize, n: usize) -> Result<u32, EditFault>
         requires { IsSettled self.old.held }
         ensures made { IfOk result (λ count. IsMade self.old self.new (Cut section at n) count) }
@@ -51,7 +51,7 @@ impl Replica {
         Ok(n as u32)
     }
 
-    /// Adds a section, before the shown one at the position or behind all of them. The answer is 1.
+    /// Adds a section, before the shown one at the position or after all of them. Returns 1.
     pub fn add(&mut self, at: usize, title: Title) -> Result<u32, EditFault>
         requires { IsSettled self.old.held }
         ensures made { IfOk result (λ n. IsMade self.old self.new (Add at title) n) }
@@ -66,7 +66,7 @@ impl Replica {
         Ok(1)
     }
 
-    /// Deletes a section. The answer is 1.
+    /// Deletes a section. Returns 1.
     pub fn drop_section(&mut self, section: usize) -> Result<u32, EditFault>
         requires { IsSettled self.old.held }
         ensures made { IfOk result (λ n. IsMade self.old self.new (DropSection section) n) }
@@ -81,7 +81,7 @@ impl Replica {
         Ok(1)
     }
 
-    /// Makes a note on elements and notes that are held. The answer is 1.
+    /// Makes a note on elements and notes that are held. Returns 1.
     pub fn note(&mut self, names: NoteNames, code: u8, body: Body) -> Result<u32, EditFault>
         requires settled { IsSettled self.old.held }
         requires held { AreHeld self.old.held.history names }

@@ -21,8 +21,8 @@ use origin_model::{Tally, Verdict};
 impl Replica {
     /// Feeds the Texts of a run, one after another: those at once that nothing is asked of, the others each alone.
     ///
-    /// After a fault the Texts before some one stand, and that one left what `feed` says of its fault. Where memory was
-    /// wanting for Texts that go in at once, that is the first of these.
+    /// After a fault the Texts before some one stand, and that one left what `feed` says of its fault. Where memory ran
+    /// out for Texts that go in at once, that is the first of these.
     pub fn feed_run(
         &mut self,
         start: &RunStart,
@@ -42,8 +42,8 @@ impl Replica {
         fed
     }
 
-    /// The same, and appends copies of those that were accepted or wait to `kept`, in order. Want of memory is also the
-    /// answer where `kept` is full: it has at most `MOST_LISTED` operations.
+    /// The same, and appends copies of those that were accepted or wait to `kept`, in order. An allocation failure is
+    /// also the answer where `kept` is full: it has at most `MOST_LISTED` operations.
     pub fn feed_run_keeping(
         &mut self,
         start: &RunStart,
@@ -128,7 +128,7 @@ impl OpenReplica {
         Ok(())
     }
 
-    /// Feeds the Texts at the front of a run that go in at once, or else the first one alone. The answer is how many.
+    /// Feeds the Texts at the front of a run that go in at once, or else the first one alone. Returns how many.
     fn feed_front(
         &mut self,
         start: &RunStart,

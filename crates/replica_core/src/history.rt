@@ -77,7 +77,7 @@ impl History {
         self.ops.len()
     }
 
-    /// Those behind so many older ones.
+    /// Those after so many older ones.
     pub fn from(&self, position: usize) -> OpSlice<'_>
         ensures { result ≡ drop position (accepted self.now) }
     {
@@ -92,7 +92,7 @@ impl History {
         self.ops.from(0)
     }
 
-    /// The operation behind so many older ones.
+    /// The operation after so many older ones.
     pub fn get(&self, position: usize) -> Option<OpRef<'_>>
         ensures { option_map op_of result ≡ slice_get (accepted self.now) position }
     {
@@ -160,7 +160,7 @@ impl History {
         self.index.is_free(first, count)
     }
 
-    /// How many Texts at the front of a run are there, one behind the other.
+    /// How many Texts at the front of a run are there, one after the other.
     pub fn repeats(&self, start: &RunStart, text: &[char]) -> usize
         requires { start.now.id.counter + length text.now ≤ 2 ^ 32 }
         ensures within { result ≤ length text.now }
@@ -197,8 +197,8 @@ impl History {
         }
     }
 
-    /// The Texts of a run, which are Ready in their turn: their positions are noted as one. After want of memory all is
-    /// as before.
+    /// The Texts of a run, which are Ready in their turn: their positions are noted as one. After an allocation failure
+    /// all is as before.
     pub fn push_run(&mut self, start: &RunStart, text: &[char]) -> Result<(), NoMemory>
         requires counters { start.now.id.counter + length text.now ≤ 2 ^ 32 }
         requires room { length self.old + length text.now ≤ MOST_OPERATIONS }
@@ -218,8 +218,8 @@ impl History {
         Ok(())
     }
 
-    /// The Deletes of so many identifiers from this one on, which are Ready in their turn. They have no positions. After
-    /// want of memory all is as before.
+    /// The Deletes of so many identifiers from this one on, which are Ready in their turn. They have no positions.
+    /// After an allocation failure all is as before.
     pub fn push_deletes(&mut self, first: ElementId, count: u32) -> Result<(), NoMemory>
         requires counters { first.counter + count ≤ 2 ^ 32 }
         requires room { length self.old + count ≤ MOST_OPERATIONS }

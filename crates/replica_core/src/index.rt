@@ -76,7 +76,7 @@ impl Index {
         self.positions.is_free(first, count)
     }
 
-    /// One operation more, at that position. After want of memory all is as before.
+    /// One operation more, at that position. After an allocation failure all is as before.
     pub fn note(&mut self, op: &Op, position: usize) -> Result<(), NoMemory>
         requires { IsUnnoted self.old.positions.values op.now }
         ensures ok { OnOk result ((h : List AnyOp) → ArePositions self.old.positions.values h
@@ -98,8 +98,8 @@ impl Index {
         }
     }
 
-    /// The positions of operations whose identifiers follow one another, the first at that position: by one entry. None is
-    /// a Delete, a Section or a Note. After want of memory all is as before.
+    /// The positions of operations whose identifiers follow one another, the first at that position: by one entry. None
+    /// is a Delete, a Section or a Note. After an allocation failure all is as before.
     pub fn note_run(
         &mut self,
         first: ElementId,
@@ -119,7 +119,7 @@ impl Index {
         self.positions.insert_run(first, count, position)
     }
 
-    /// The newest operation less. This wants no memory, since no other one has the position behind it.
+    /// The newest operation less. This wants no memory, since no other one has the position after it.
     pub fn forget(&mut self, op: &Op)
         ensures found { (h : List AnyOp) → ArePositions self.old.positions.values (op.now ∷ h)
             → verdict h op.now ≡ Ready

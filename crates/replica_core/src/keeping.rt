@@ -34,8 +34,8 @@ impl Replica {
     /// Feeds the operation, and appends a copy of it to `kept` where it was accepted or waits.
     ///
     /// The copy is made first, but for where as many are held as may be: then nothing more is kept, and one that is too
-    /// many is reported as that and not as want of memory. Want of memory is also the answer where `kept` is full, as a list
-    /// of runs is with `MOST_LISTED` operations. After a fault `kept` is as before.
+    /// many is reported as that and not as an allocation failure. An allocation failure is also the answer where `kept`
+    /// is full, as a list of runs is with `MOST_LISTED` operations. After a fault `kept` is as before.
     pub fn feed_keeping<K: Copies>(
         &mut self,
         op: Op,

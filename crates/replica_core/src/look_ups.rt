@@ -79,7 +79,7 @@ impl Replica {
         self.inner.accepted.sections_and_notes()
     }
 
-    /// The Section or Note that was accepted behind so many operations: None where another operation stands there, or
+    /// The Section or Note that was accepted after so many operations: None where another operation stands there, or
     /// none.
     pub fn section_or_note(&self, position: usize) -> Option<&Op>
         ensures found { option_copied result ≡ section_or_note_at (accepted_list self.now.held.history) position }
@@ -91,7 +91,7 @@ impl Replica {
         }
     }
 
-    /// The operation that was accepted behind so many others.
+    /// The operation that was accepted after so many others.
     pub fn operation(&self, position: usize) -> Option<OpRef<'_>>
         ensures operation { option_map op_of result ≡ slice_get (accepted_list self.now.held.history) position }
         ensures sound { IsSound self.now }
@@ -99,7 +99,7 @@ impl Replica {
         self.inner.accepted.get(position)
     }
 
-    /// The operations that were accepted behind so many others, in order.
+    /// The operations that were accepted after so many others, in order.
     pub fn accepted_from(&self, position: usize) -> OpSlice<'_>
         ensures operations { result ≡ drop position (accepted_list self.now.held.history) }
         ensures sound { IsSound self.now }
@@ -187,7 +187,7 @@ fn shown_text(alloc: Global, place: &SectionList) -> Result<String, NoMemory>
     let Ok(()) = place.write_text(&mut sink) else {
         return Err(NoMemory);
     };
-    // Scalars are written in UTF-8, so nothing but memory is wanting.
+    // Scalars are written in UTF-8, so nothing but memory runs out.
     match std::str::from_utf8(sink.written()) {
         Ok(text) => Ok(String::from_str(alloc, text)?),
         Err(_) => Err(NoMemory),

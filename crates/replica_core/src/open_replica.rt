@@ -60,8 +60,8 @@ impl OpenReplica {
         self.inbox.close();
     }
 
-    /// Lets the earliest waiting operation that can be accepted or is stray leave: None is the answer where there is
-    /// none. After want of memory, which comes only before one that is accepted, all is as before.
+    /// Lets the earliest waiting operation that can be accepted or is stray leave: Returns None where there is none.
+    /// After an allocation failure, which comes only before one that is accepted, all is as before.
     pub fn step(&mut self) -> Result<Option<Settled>, NoMemory>
         ensures step { IfOk result (λ settled. Settles self.old.state.held self.new.state.held settled) }
         ensures others { self.new.state ≡ record self.old.state { held = self.new.state.held } }
@@ -102,7 +102,7 @@ impl OpenReplica {
         Ok(())
     }
 
-    /// One step of settling, counted: the answer is whether there was one.
+    /// One step of settling, counted, and returns whether there was one.
     fn settle_counted(&mut self, tally: &mut Tally) -> Result<bool, NoMemory>
         requires accepted { tally.old.accepted < 2 ^ 32 - 1 }
         requires stray { tally.old.stray < 2 ^ 32 - 1 }
@@ -226,7 +226,7 @@ impl OpenReplica {
         }
     }
 
-    /// Delivers the operation, settles to the end and counts: the answer is whether it was accepted or waits.
+    /// Delivers the operation, settles to the end and counts, and returns whether it was accepted or waits.
     ///
     /// Refusals are counted and are no faults, but for one where as many are there as may.
     pub fn feed(&mut self, op: Op, tally: &mut Tally) -> Result<bool, FeedFault>

@@ -272,8 +272,8 @@ impl Replica {
         taken
     }
 
-    /// Lets the earliest waiting operation that can be accepted or is stray leave: None is the answer where there is
-    /// none. After want of memory, which comes only before one that is accepted, all is as before.
+    /// Lets the earliest waiting operation that can be accepted or is stray leave: Returns None where there is none.
+    /// After an allocation failure, which comes only before one that is accepted, all is as before.
     pub fn settle_one(&mut self) -> Result<Option<Settled>, NoMemory>
         ensures step { IfOk result (λ settled. Settles self.old.held self.new.held settled) }
         ensures others { self.new ≡ record self.old { held = self.new.held } }
@@ -286,7 +286,7 @@ impl Replica {
         settled
     }
 
-    /// Delivers the operation, settles to the end and counts: the answer is whether it was accepted or waits.
+    /// Delivers the operation, settles to the end and counts, and returns whether it was accepted or waits.
     ///
     /// Refusals are counted and are no faults, but for one where as many are there as may.
     pub fn feed(&mut self, op: Op, tally: &mut Tally) -> Result<bool, FeedFault>

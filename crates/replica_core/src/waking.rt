@@ -32,7 +32,7 @@ pub(crate) fn wake(inbox: &OpenInbox, accepted: &Accepted, due: &mut Due)
     }
 }
 
-/// One more waits, which cannot leave yet. After want of memory all is as before.
+/// One more waits, which cannot leave yet. After an allocation failure all is as before.
 pub(crate) fn wait(inbox: &mut OpenInbox, due: &mut Due, op: Op) -> Result<(), PushFault>
     ensures ok { OnOk result (inbox.new ≡ record inbox.old { ops = inbox.old.ops ++ op ∷ [] }) }
     ensures mark { OnOk result (due.new ≡ due.old ++ false ∷ []) }
@@ -55,7 +55,7 @@ pub(crate) fn wait(inbox: &mut OpenInbox, due: &mut Due, op: Op) -> Result<(), P
     }
 }
 
-/// The operation at the position waits no longer. Those behind it close up.
+/// The operation at the position waits no longer. Those after it close up.
 pub(crate) fn leave(inbox: &mut OpenInbox, due: &mut Due, position: usize) -> Op
     requires within { position < length inbox.old.ops }
     requires marks { length due.old ≡ length inbox.old.ops }

@@ -21,10 +21,10 @@ use Rattle.op_frame.proofs.ReadingLemmas.{reads_once}
 use Rattle.replica_file.specs.declared.appending.AppendFault.{AppendFault}
 use Rattle.replica_file.specs.declared.appending.AppendFault.TheVariants.{BatchTooLong, DiskFault, NoMemory}
 use Rattle.replica_file.specs.declared.load_file.End.{End}
-use Rattle.replica_file.specs.Append.{AppendMeets, HasBatch, HoldsEither, IsTooLong, behind_gate, next_end, content_with_ops}
+use Rattle.replica_file.specs.Append.{AppendMeets, HasBatch, HoldsEither, IsTooLong, after_gate, next_end, content_with_ops}
 use Rattle.replica_file.specs.Ends.{EndsAtGate, IsWithinReach, Means}
 use Rattle.replica_file.specs.Faults.{AccountsForFaults}
-use Rattle.replica_file.specs.Gates.{BeforeOrWritten, IsOpened, IsWrittenBehind, LastsForCalls, OpenedTo, gate_opened, spent_opening}
+use Rattle.replica_file.specs.Gates.{BeforeOrWritten, IsOpened, IsWrittenAfter, LastsForCalls, OpenedTo, gate_opened, spent_opening}
 
 pub read_once : ReadOnce
 read_once grammar bytes ops others p q = (reads_once grammar bytes ops others Whole Whole p q).0
@@ -33,7 +33,7 @@ read_once grammar bytes ops others p q = (reads_once grammar bytes ops others Wh
 pub same_content : (bytes : List ℕ) (a b : Content) → HasImage bytes (Holds a) → HasImage bytes (Holds b) → a ≡ b
 same_content bytes a b p q = let same : Holds a ≡ Holds b = image_once read_once bytes (Holds a) (Holds b) p q in cc same
 
--- bytes in three parts: those before an offset, the one there, and those behind
+-- bytes in three parts: those before an offset, the one there, and those after
 at_offset : (bytes : List ℕ) (n byte : ℕ) → n < length bytes → get_or bytes n 0 ≡ byte → bytes ≡ take n bytes ++ byte ∷ drop (n + 1) bytes
 at_offset bytes n byte inside is =
     sym (take-append-drop n bytes) ∙ ap (λ (l : List ℕ). take n bytes ++ l)
@@ -64,16 +64,16 @@ other_gate before image content h inside front shut =
 module _ (before : List ℕ) (content : Content) (ops : List Op) (h : HasImage before (Holds content)) (have : All HasFrame ops) (short : length (frames ops) ≤ LONGEST_BATCH)
     (few : content.slots < last_slot) where
   -- the bytes of one more batch, opened
-  pub with_open_gate : (image : List ℕ) → IsWrittenBehind before content.at (behind_gate ops) image → get_or image content.at 0 ≡ 1
+  pub with_open_gate : (image : List ℕ) → IsWrittenAfter before content.at (after_gate ops) image → get_or image content.at 0 ≡ 1
       → HasImage image (Holds (content_with_ops content ops))
   with_open_gate image written open_now =
-      let more : List ℕ = drop (length (behind_gate ops)) (drop (content.at + 1) image) in
-      let behind : drop (content.at + 1) image ≡ behind_gate ops ++ more =
-      sym (take-append-drop (length (behind_gate ops)) (drop (content.at + 1) image)) ∙ ap (λ (z : List ℕ). z ++ more) written.behind in
+      let more : List ℕ = drop (length (after_gate ops)) (drop (content.at + 1) image) in
+      let behind : drop (content.at + 1) image ≡ after_gate ops ++ more =
+      sym (take-append-drop (length (after_gate ops)) (drop (content.at + 1) image)) ∙ ap (λ (z : List ℕ). z ++ more) written.behind in
       let bytes : image ≡ take content.at before ++ (open_slot (batch_of ops) ++ 0 ∷ more) =
       at_offset image content.at 1 written.inside open_now ∙ (λ i. written.front i ++ 1 ∷ behind i)
       ∙ ap (λ (z : List ℕ). take content.at before ++ 1 ∷ z) (append_assoc ((batch_of ops).word ++ frames ops) (0 ∷ []) more) in
-      let long : length (open_slot (batch_of ops)) ≡ length (behind_gate ops) = omega (arith, length-append ((batch_of ops).word ++ frames ops) (0 ∷ [])) in
+      let long : length (open_slot (batch_of ops)) ≡ length (after_gate ops) = omega (arith, length-append ((batch_of ops).word ++ frames ops) (0 ∷ [])) in
       let same : with_batch content (batch_of ops) ≡ content_with_ops content ops =
       ap (λ (n : ℕ). record { replica = content.replica; hold = content.hold; ops = content.ops ++ ops; at = content.at + n; slots = content.slots + 1 }) long in
       subst (λ (z : List ℕ). HasImage z (Holds (content_with_ops content ops))) (sym bytes)
@@ -81,7 +81,7 @@ module _ (before : List ℕ) (content : Content) (ops : List Op) (h : HasImage b
       (batch_appended before content (batch_of ops) 0 more h (is_batch ops (framing_read ops (frames ops) (written_framing ops have)) short) few (λ e. omega (arith, e))))
 
   -- what a crash leaves holds what the file held, or that with the batch
-  pub holds_either : (image : List ℕ) → content.at + 1 ≤ length before → BeforeOrWritten before content.at (behind_gate ops) image → HoldsEither content ops image
+  pub holds_either : (image : List ℕ) → content.at + 1 ≤ length before → BeforeOrWritten before content.at (after_gate ops) image → HoldsEither content ops image
   holds_either image inside (inl same) =
       inl (same_to_gate before image content h (subst (λ (n : ℕ). take n image ≡ take n before) (add-one content.at) same))
   holds_either image inside (inr written) = elim (cases_eq (get_or image content.at 0) 1) [
@@ -91,29 +91,29 @@ module _ (before : List ℕ) (content : Content) (ops : List Op) (h : HasImage b
 
 -- the same of all states that came
 pub leaves_either : (h k : History) (content : Content) (ops : List Op) → Means h.last content → All HasFrame ops → length (frames ops) ≤ LONGEST_BATCH → content.slots < last_slot
-    → content.at + 1 ≤ length h.last.seen → LeavesOnly h k (BeforeOrWritten h.last.seen content.at (behind_gate ops)) → LeavesOnly h k (HoldsEither content ops)
+    → content.at + 1 ≤ length h.last.seen → LeavesOnly h k (BeforeOrWritten h.last.seen content.at (after_gate ops)) → LeavesOnly h k (HoldsEither content ops)
 leaves_either h k content ops means have short few inside leaves = record {
   recent = leaves.recent;
   grows = leaves.grows;
   each = λ n d below image is. holds_either h.last.seen content ops means have short few image inside (leaves.each n d below image is);
 }
 
--- the next batch can be appended behind the one that was opened
+-- the next batch can be appended after the one that was opened
 has_batch : (before : List ℕ) (s : DiskState) (content : Content) (end : End) (ops : List Op) → HasImage before (Holds content) → content.at ≡ end.at → content.slots ≡ end.slots
     → All HasFrame ops
-    → length (frames ops) ≤ LONGEST_BATCH → content.slots < last_slot → IsOpened before content.at (behind_gate ops) s → HasBatch content end ops s
+    → length (frames ops) ≤ LONGEST_BATCH → content.slots < last_slot → IsOpened before content.at (after_gate ops) s → HasBatch content end ops s
 has_batch before s content end ops h at slots have short few is =
     let means : Means s (content_with_ops content ops) =
     with_open_gate before content ops h have short few s.seen is.written (get_or_from_slice_get s.seen content.at 1 0 is.opened) in
-    let reach : content.at + 1 + length (behind_gate ops) ≤ length s.seen =
-    omega (arith, ap length is.written.behind, length-take (length (behind_gate ops)) (drop (content.at + 1) s.seen), length-drop (content.at + 1) s.seen, is.written.inside) in
+    let reach : content.at + 1 + length (after_gate ops) ≤ length s.seen =
+    omega (arith, ap length is.written.behind, length-take (length (after_gate ops)) (drop (content.at + 1) s.seen), length-drop (content.at + 1) s.seen, is.written.inside) in
     record {
       means = means;
       settled = is.settled;
       ends = record {
         content = content_with_ops content ops;
         means = means;
-        at = ap (λ (n : ℕ). n + length (behind_gate ops)) at;
+        at = ap (λ (n : ℕ). n + length (after_gate ops)) at;
         slots = ap (λ (n : ℕ). n + 1) slots;
         agrees = record {
           inside = omega (arith, reach, at);
@@ -182,7 +182,7 @@ not_appended end ops disk fault some inside too_long = record {
 }
 
 module _ (end : End) (ops : List Op) (have : All HasFrame ops) (short : length (frames ops) ≤ LONGEST_BATCH) (few : end.slots < last_slot) (bytes : List ℕ)
-    (is : bytes ≡ behind_gate ops) where
+    (is : bytes ≡ after_gate ops) where
   -- the batch was written
   at_moments : (old p : Option History) → IfSome old (λ h. EndsAtGate h.last end) → IfSome old (λ h. LeavesOnlyTo h p (BeforeOrWritten h.last.seen end.at bytes))
       → IfSome old (λ h. Leaves ops h p)
@@ -193,7 +193,7 @@ module _ (end : End) (ops : List Op) (have : All HasFrame ops) (short : length (
       let at : content.at ≡ end.at = ap (λ (c : Content). c.at) same ∙ ends.at in
       let slots : content.slots ≡ end.slots = ap (λ (c : Content). c.slots) same ∙ ends.slots in
       leaves_either h k content ops means have short (omega (arith, slots, few)) (omega (arith, at, ends.agrees.inside))
-      (subst (λ (n : ℕ). LeavesOnly h k (BeforeOrWritten h.last.seen n (behind_gate ops))) (sym at)
+      (subst (λ (n : ℕ). LeavesOnly h k (BeforeOrWritten h.last.seen n (after_gate ops))) (sym at)
       (subst (λ (b : List ℕ). LeavesOnly h k (BeforeOrWritten h.last.seen end.at b)) is leaves))
 
   -- and once it is settled that with the batch
@@ -206,7 +206,7 @@ module _ (end : End) (ops : List Op) (have : All HasFrame ops) (short : length (
       let at : content.at ≡ end.at = ap (λ (c : Content). c.at) same ∙ ends.at in
       let slots : content.slots ≡ end.slots = ap (λ (c : Content). c.slots) same ∙ ends.slots in
       has_batch h.last.seen k.last content end ops means at slots have short (omega (arith, slots, few))
-      (subst (λ (n : ℕ). IsOpened h.last.seen n (behind_gate ops) k.last) (sym at)
+      (subst (λ (n : ℕ). IsOpened h.last.seen n (after_gate ops) k.last) (sym at)
       (subst (λ (b : List ℕ). IsOpened h.last.seen end.at b k.last) is opened))
 
   fits : IsTooLong end ops → ⊥

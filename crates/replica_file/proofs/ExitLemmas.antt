@@ -1,4 +1,4 @@
--- What a crash may leave at each exit of a write behind a gate.
+-- What a crash may leave at each exit of a write after a gate.
 use Rattle.std.proofs.Common.{◌≡◌, inl, inr, ℕ, ◌+◌, List, [], ◌∷◌, length, take, ap, sym, subst, ◌∙◌, arith}
 use Rattle.std.specs.Prelude.{Option, Some, None, IfSome, Result, Ok, Err, OnOk, OnErr}
 use Rattle.fugue_ids.specs.declared.out.Failed.{Failed}
@@ -7,7 +7,7 @@ use Rattle.outer_ports.specs.disk.Moments.{History, history_after_step, past_aft
 use Rattle.outer_ports.proofs.SharedLemmas.{image_at_rest}
 use Rattle.outer_ports.proofs.SharedLemmas.{leaves_none, leaves_more}
 use Rattle.replica_file.specs.Ends.{Agrees}
-use Rattle.replica_file.specs.Gates.{IsWrittenBehind, BeforeOrWritten, OpenedTo}
+use Rattle.replica_file.specs.Gates.{IsWrittenAfter, BeforeOrWritten, OpenedTo}
 use Rattle.replica_file.proofs.GateLemmas.{agrees_before, behind, front_kept, while_opened, open_gate, once_opened, is_opened}
 
 -- one step more, or none
@@ -48,7 +48,7 @@ module _ (gate : ℕ) (bytes : List ℕ) where
 
   leaves_four : (h : History) → Agrees h.last (gate + 1) → LeavesOnly h (four h) (P h)
   leaves_four h agrees = leaves_more (P h) h (three h) durable (leaves_three h agrees)
-      (λ image is. inr (subst (IsWrittenBehind h.last.seen gate bytes) (sym (image_at_rest (open_gate h.last.seen gate bytes agrees.inside) image is))
+      (λ image is. inr (subst (IsWrittenAfter h.last.seen gate bytes) (sym (image_at_rest (open_gate h.last.seen gate bytes agrees.inside) image is))
       (once_opened h.last.seen gate bytes agrees.inside)))
 
   pub at_write : (old p : Option History) → IfSome old (λ h. Agrees h.last (gate + 1)) → MayHaveWritten (gate + 1) (length bytes) old p → IfSome old (λ h. LeavesOnlyTo h p (P h))

@@ -1,4 +1,4 @@
--- What a crash leaves while bytes are written behind a gate, and while it is opened.
+-- What a crash leaves while bytes are written after a gate, and while it is opened.
 use Rattle.std.proofs.Common.{◌≡◌, ◌⊎◌, inl, inr, ℕ, zero, suc, ◌+◌, ◌-◌, ◌<◌, ◌≤◌, List, [], ◌∷◌, ◌++◌, length, take, drop, get_or, refl, ap, sym, ◌∙◌, arith, append_assoc}
 use Rattle.std.proofs.Common.{length-append, length-drop}
 use Rattle.std.proofs.lemmas.List.{length-take, length-take-le, get_or-take, get_or-drop, get_or_append_left, get_or-append_right, take_at, drop_at, ext_get_or, get_or_at}
@@ -9,7 +9,7 @@ use Rattle.std.specs.Prelude.{Some}
 use Rattle.outer_ports.specs.disk.States.{DiskState, IsCrashImage, at_rest, overwritten, torn_state, SameOutside}
 use Rattle.outer_ports.proofs.SharedLemmas.{free_more, same_byte, same_outside}
 use Rattle.replica_file.specs.Ends.{Agrees}
-use Rattle.replica_file.specs.Gates.{IsWrittenBehind, IsOpened}
+use Rattle.replica_file.specs.Gates.{IsWrittenAfter, IsOpened}
 
 base_image : (s : DiskState) → IsCrashImage s s.base
 base_image s = record { no_shorter = omega arith; no_longer = omega arith; same = λ i below free. refl }
@@ -17,7 +17,7 @@ base_image s = record { no_shorter = omega arith; no_longer = omega arith; same 
 base_long : (s : DiskState) (n : ℕ) → Agrees s n → n ≤ length s.base
 base_long s n agrees = omega (arith, ap length (agrees.each s.base (base_image s)), length-take n s.base, length-take n s.seen, agrees.inside)
 
--- a write behind what agrees leaves that
+-- a write after what agrees leaves that
 pub agrees_before : (s : DiskState) (n at k : ℕ) (seen image : List ℕ) → Agrees s n → n ≤ at → IsCrashImage (torn_state at k seen s) image → take n image ≡ take n s.seen
 agrees_before s n at k seen image agrees le is =
     let based : n ≤ length s.base = base_long s n agrees in
@@ -56,7 +56,7 @@ shorter (suc n) (suc m) (x ∷ xs) (y ∷ ys) le same =
     λ j. head j ∷ rest j
 
 module _ (before : List ℕ) (gate : ℕ) (bytes : List ℕ) (inside : gate + 1 ≤ length before) where
-  -- what a read gives once the bytes stand behind the gate
+  -- what a read gives once the bytes stand after the gate
   abbrev pub behind : List ℕ
   behind = overwritten before (gate + 1) bytes
 
@@ -83,7 +83,7 @@ module _ (before : List ℕ) (gate : ℕ) (bytes : List ℕ) (inside : gate + 1 
 
   -- what differs from it at the gate alone
   but_for_gate : (image : List ℕ) → length behind ≤ length image
-      → ((i : ℕ) → i < length behind → (i < gate) ⊎ (gate + 1 ≤ i) → get_or image i 0 ≡ get_or behind i 0) → IsWrittenBehind before gate bytes image
+      → ((i : ℕ) → i < length behind → (i < gate) ⊎ (gate + 1 ≤ i) → get_or image i 0 ≡ get_or behind i 0) → IsWrittenAfter before gate bytes image
   but_for_gate image long same = record {
     inside = omega (arith, reach, long);
     front = same_take gate image behind (omega (arith, reach, long)) (omega (arith, reach)) (λ i below. same i (omega (arith, below, reach)) (inl below))
@@ -95,7 +95,7 @@ module _ (before : List ℕ) (gate : ℕ) (bytes : List ℕ) (inside : gate + 1 
   }
 
   -- while the gate is opened
-  pub while_opened : (seen image : List ℕ) → IsCrashImage (torn_state gate 1 seen (at_rest behind)) image → IsWrittenBehind before gate bytes image
+  pub while_opened : (seen image : List ℕ) → IsCrashImage (torn_state gate 1 seen (at_rest behind)) image → IsWrittenAfter before gate bytes image
   while_opened seen image is =
       but_for_gate image is.no_shorter
       (λ i below outside. is.same i below (free_more [] (gate, 1) i (All-nil (λ (range : ℕ × ℕ). (i < range.0) ⊎ (range.0 + range.1 ≤ i))) outside))
@@ -104,7 +104,7 @@ module _ (before : List ℕ) (gate : ℕ) (bytes : List ℕ) (inside : gate + 1 
   abbrev pub open_gate : List ℕ
   open_gate = overwritten behind gate (1 ∷ [])
 
-  pub once_opened : IsWrittenBehind before gate bytes open_gate
+  pub once_opened : IsWrittenAfter before gate bytes open_gate
   once_opened =
       let only : SameOutside gate 1 behind open_gate = same_outside gate (1 ∷ []) behind (omega (arith, reach)) in
       but_for_gate open_gate only.no_shorter (λ i below outside. same_byte gate 1 i behind open_gate only outside)

@@ -1,4 +1,4 @@
--- What a read gives stays one of the images while bytes are written behind a gate.
+-- What a read gives stays one of the images while bytes are written after a gate.
 use Rattle.std.proofs.Common.{◌≡◌, inl, inr, ℕ, ◌+◌, ◌≤◌, List, [], ◌∷◌, length, subst, sym, ◌∙◌, ap, arith}
 use Rattle.std.specs.Prelude.{Option, Some, None, IfSome, Result, Ok, Err, OnOk, OnErr}
 use Rattle.fugue_ids.specs.declared.out.Failed.{Failed}
@@ -26,11 +26,11 @@ may_honest at n None q (inr torn_so) honest = subst AreHonest (sym torn_so.1) tt
 may_honest at n (Some h) q (inr torn_so) honest = subst AreHonest (sym torn_so.1) (honest_torn h.last at n torn_so.0 honest torn_so.2)
 
 module _ (gate : ℕ) (bytes : List ℕ) (old p : Option History) (agrees : IfSome old (λ h. Agrees h.last (gate + 1))) where
-  behind_gate : (past : Option History) → IfSome past (λ h. Agrees h.last (gate + 1)) → IfSome past (λ h. gate + 1 ≤ length h.last.seen)
-  behind_gate None a = tt
-  behind_gate (Some h) a = a.inside
+  after_gate : (past : Option History) → IfSome past (λ h. Agrees h.last (gate + 1)) → IfSome past (λ h. gate + 1 ≤ length h.last.seen)
+  after_gate None a = tt
+  after_gate (Some h) a = a.inside
 
-  -- at the gate of what was written behind it and settled
+  -- at the gate of what was written after it and settled
   at_gate : (past q r : Option History) → IfSome past (λ h. gate + 1 ≤ length h.last.seen) → q ≡ past_after_step (wrote (gate + 1) bytes) past → r ≡ past_after_step durable q
       → IfSome r (λ h. gate ≤ length h.last.seen)
   at_gate None q r inside wrote_so settled_so = subst (λ o. IfSome o (λ h. gate ≤ length h.last.seen)) (sym (settled_so ∙ ap (past_after_step durable) wrote_so)) tt
@@ -43,7 +43,7 @@ module _ (gate : ℕ) (bytes : List ℕ) (old p : Option History) (agrees : IfSo
 
   module _ (wrote_so : p ≡ past_after_step (wrote (gate + 1) bytes) old) where
     pub honest_at_sync : (q : Option History) → q ≡ p → AreHonest old → AreHonest q
-    honest_at_sync q stays honest = subst AreHonest (sym stays) (wrote_honest (gate + 1) bytes old p (behind_gate old agrees) wrote_so honest)
+    honest_at_sync q stays honest = subst AreHonest (sym stays) (wrote_honest (gate + 1) bytes old p (after_gate old agrees) wrote_so honest)
 
     module _ (q : Option History) (settled_so : q ≡ past_after_step durable p) where
       pub honest_at_open : (r : Option History) → MayHaveWritten gate 1 q r → AreHonest old → AreHonest r
@@ -53,4 +53,4 @@ module _ (gate : ℕ) (bytes : List ℕ) (old p : Option History) (agrees : IfSo
           → OnErr result (t ≡ r) → AreHonest old → AreHonest t
       honest_at_end r t (Ok x) opened_so ends stays honest = settled_honest r t ends
       honest_at_end r t (Err e) opened_so ends stays honest =
-          subst AreHonest (sym stays) (wrote_honest gate (1 ∷ []) q r (at_gate old p q (behind_gate old agrees) wrote_so settled_so) opened_so (settled_honest p q settled_so))
+          subst AreHonest (sym stays) (wrote_honest gate (1 ∷ []) q r (at_gate old p q (after_gate old agrees) wrote_so settled_so) opened_so (settled_honest p q settled_so))

@@ -70,7 +70,7 @@ still_leaves o q same = subst (λ t. IfSome o (λ h. LeavesOnlyTo h t (MayLeave 
     stays None = tt
     stays (Some h) = leaves_none (MayLeave h) h
 
--- a disk that is specified is so behind a sync
+-- a disk that is specified is so after a sync
 pub tells_settled : (o q : Option History) → q ≡ past_after_step durable o → IsSome o → IsSome q
 tells_settled None q is tells = subst IsSome (sym is) tells
 tells_settled (Some h) q is tells = subst IsSome (sym is) refl

@@ -198,7 +198,7 @@ refused_many old new op before after fault count is exactly leaves =
     let left = subst (LeavesAfterFault old new op before after) is leaves in
     (exactly.0 (ap failed_by (is ∙ ap FedTooMany left.0)), left.1)
 
--- an operation for which memory was wanting would be kept
+-- an operation for which memory ran out would be kept
 pub wanted_kept : (old new : State) (op : Op) (before after : Tally) (fault : FeedFault) → fault ≡ FedNoMemory → LeavesAfterFault old new op before after fault
     → is_kept (answer old.hold old.most old.held op) ≡ true
 wanted_kept old new op before after fault is leaves = (subst (LeavesAfterFault old new op before after) is leaves).0

@@ -10,22 +10,22 @@ use Rattle.origin_model.specs.edits.State.{State}
 use Rattle.replica_file.specs.declared.load_file.End.{End}
 use Rattle.replica_file.specs.declared.gate.Gate.{Gate}
 use Rattle.replica_file.specs.Loading.{IsSameButHeld}
-use Rattle.replica_file.specs.Moments.{HasMoments, OneListOfMoments, WalkedWith, WalksOutWith, accepted_by, new_moment, moments_behind, moments_of}
+use Rattle.replica_file.specs.Moments.{HasMoments, OneListOfMoments, WalkedWith, WalksOutWith, accepted_by, new_moment, moments_after, moments_of}
 use Rattle.replica_file.specs.Slots.{TakesSlot, Walked}
 use Rattle.replica_file.proofs.AppendLemmas.{same_content}
 use Rattle.replica_file.proofs.ImageLemmas.{has_one_image}
 use Rattle.replica_file.proofs.OnceLemmas.{first_ones}
-use Rattle.replica_file.proofs.WalkLemmas.{gate_behind, walk_on, walk_on_adds}
+use Rattle.replica_file.proofs.WalkLemmas.{gate_after, walk_on, walk_on_adds}
 
 -- one batch more
-moments_next : (hold : ℕ) (earlier batches : List Batch) (batch : Batch) → moments_behind hold earlier (batches ++ batch ∷ [])
-    ≡ moments_behind hold earlier batches ++ new_moment (accepted_by hold (earlier ++ batches)) (accepted_by hold ((earlier ++ batches) ++ batch ∷ []))
+moments_next : (hold : ℕ) (earlier batches : List Batch) (batch : Batch) → moments_after hold earlier (batches ++ batch ∷ [])
+    ≡ moments_after hold earlier batches ++ new_moment (accepted_by hold (earlier ++ batches)) (accepted_by hold ((earlier ++ batches) ++ batch ∷ []))
 moments_next hold earlier [] batch =
     append-nil (new_moment (accepted_by hold earlier) (accepted_by hold (earlier ++ batch ∷ [])))
     ∙ ap (λ (l : List Batch). new_moment (accepted_by hold l) (accepted_by hold (l ++ batch ∷ []))) (sym (append-nil earlier))
 moments_next hold earlier (first ∷ batches) batch =
     let here = new_moment (accepted_by hold earlier) (accepted_by hold (earlier ++ first ∷ [])) in
-    let rest = moments_behind hold (earlier ++ first ∷ []) batches in
+    let rest = moments_after hold (earlier ++ first ∷ []) batches in
     let last : List Batch → List ℕ = λ l. new_moment (accepted_by hold l) (accepted_by hold (l ++ batch ∷ [])) in
     ap (λ (l : List ℕ). here ++ l) (moments_next hold (earlier ++ first ∷ []) batches batch)
     ∙ sym (append_assoc here rest (last ((earlier ++ first ∷ []) ++ batches)))
@@ -72,14 +72,14 @@ walk_ends bytes end r moments with_moments =
         batches = w.batches;
         gate = w.is_gate.byte;
         rest = drop (out.gate.at + 1) bytes;
-        found = subst (OpenSlots (slots_of bytes) w.batches) (gate_behind bytes out.gate.at w.is_gate.byte w.is_gate.is) w.found;
+        found = subst (OpenSlots (slots_of bytes) w.batches) (gate_after bytes out.gate.at w.is_gate.byte w.is_gate.is) w.found;
         closed = w.is_gate.shuts out.shut;
         content_is = refl;
       };
       are = with_moments.are ∙ ap (λ (h : ℕ). moments_of h w.batches) w.hold_is;
     }
 
--- a list that is as long with more behind it
+-- a list that is as long with more after it
 no_more : (batches all more : List Batch) → all ≡ batches ++ more → length batches ≡ length all → all ≡ batches
 no_more batches all [] is long = is ∙ append-nil batches
 no_more batches all (batch ∷ more) is long = absurd (omega (arith, ap length is, length-append batches (batch ∷ more), long))

@@ -27,7 +27,7 @@ module _ (grammar : Grammar) where
   pub starts_none : (bytes : List ℕ) → Starts grammar bytes [] bytes
   starts_none bytes = record { found = []; are_frames = All-nil (IsFrame grammar); ops_are = refl; split = refl }
 
-  -- frames, and frames behind them
+  -- frames, and frames after them
   starts_then : (bytes rest last : List ℕ) (ops more : List Op) → Starts grammar bytes ops rest → Starts grammar rest more last → Starts grammar bytes (ops ++ more) last
   starts_then bytes rest last ops more one two = record {
     found = one.found ++ two.found;
@@ -65,7 +65,7 @@ module _ (grammar : Grammar) where
       by_end (inr bad) = never (BadFrame (length (bytes_of off.starts.found))) (λ e. cc e) (refl, bad)
 
   module _ (before after : List ℕ → Type 0) (bytes : List ℕ) (ops : List Op) (hold most : ℕ) (s : Held) (places : Type 0) where
-    -- memory is wanting as well where more bytes follow
+    -- memory runs out as well where more bytes follow
     wanting_further : (more : List ℕ) → ((rest : List ℕ) → before rest → after (rest ++ more)) → IsWanting grammar before bytes ops hold most s places
         → IsWanting grammar after (bytes ++ more) ops hold most s places
     wanting_further more begins (ForPiece rest starts begin) = ForPiece (rest ++ more) (starts_further bytes rest more ops starts) (begins rest begin)
@@ -73,7 +73,7 @@ module _ (grammar : Grammar) where
     wanting_further more begins (ForOperation op later behind starts found kept) =
         ForOperation op later (behind ++ more) (starts_further bytes behind more (ops ++ op ∷ later) starts) found kept
 
-    -- and behind other operations
+    -- and after other operations
     wanting_then : (whole : List ℕ) (earlier : List Op) → Starts grammar whole earlier bytes → ((rest : List ℕ) → before rest → after rest)
         → IsWanting grammar before bytes ops hold most s places
         → IsWanting grammar after whole (earlier ++ ops) hold most s places
@@ -134,7 +134,7 @@ module _ (grammar : Grammar) (bytes : List ℕ) (at left size : ℕ) (piece : Li
     feeds = took.feeds;
   }
 
-  -- memory was wanting in the piece
+  -- memory ran out in the piece
   pub piece_lacks : (was : Bool) (old : State) → Lacks grammar (λ rest. rest ≡ piece) piece was old
       → Lacks grammar (λ rest. rest ≡ file_part bytes at left) (file_part bytes at left) was old
   piece_lacks was old lacks = record {
@@ -200,7 +200,7 @@ module _ (grammar : Grammar) (bytes : List ℕ) (at len taken : ℕ) (within : t
         ends = behind.ends;
       })
 
-  -- memory was wanting in what is left
+  -- memory ran out in what is left
   pub frames_lacks : (a b : Bool) (r s : State) → IsSameButHeld r s → TakesInFrames grammar bytes at len taken a r b s → Pieces grammar bytes at len taken
       → Lacks grammar (λ rest. rest ≡ file_part bytes (at + taken) (len - taken)) (file_part bytes (at + taken) (len - taken)) b s
       → Lacks grammar (BeginsPiece grammar bytes at len) (file_part bytes at len) a r

@@ -15,7 +15,7 @@ use Rattle.op_frame.specs.Readers.{AnswersBy, Chains, FrameReading, Gave, Nexts,
 use Rattle.op_frame.specs.declared.fault.FrameFault.TheVariants as frame_fault
 use Rattle.origin_model.specs.edits.State.{State}
 use Rattle.replica_file.specs.Loading.{Feeds, IsSameButHeld, WantsMemory}
-use Rattle.replica_file.specs.Pieces.{AreBad, IsReading, Lacks, LacksBehind, PieceSteps, TakesInPiece}
+use Rattle.replica_file.specs.Pieces.{AreBad, IsReading, Lacks, LacksAfter, PieceSteps, TakesInPiece}
 use Rattle.replica_file.specs.Wanting.{AreWholeFrames, ForContent, ForOperation, ForPiece, IsWanting}
 use Rattle.replica_file.proofs.PartLemmas.{starts_none}
 use Rattle.replica_file.proofs.LoadingLemmas.{feeds_none, feeds_then, same_then}
@@ -89,8 +89,8 @@ module _ (bytes : List ℕ) (ops : List Op) (old new : FrameReading) (before aft
     sure = sure ∙ reading.sure;
   }
 
-  -- memory was wanting for the title of the next frame
-  pub title : (r : State) (was : Bool) → Nexts old new before after (Err frame_fault.NoMemory) → LacksBehind old.grammar bytes ops was r
+  -- memory ran out for the title of the next frame
+  pub title : (r : State) (was : Bool) → Nexts old new before after (Err frame_fault.NoMemory) → LacksAfter old.grammar bytes ops was r
   title r was nexts = record {
     more = [];
     now = was;
@@ -115,8 +115,8 @@ module _ (bytes : List ℕ) (ops : List Op) (old new : FrameReading) (before aft
       by (Some rest) specified answer =
           ForContent rest (record { found = reading.gave.found; are_frames = reading.gave.are_frames; ops_are = ops_are; split = same_Some _ _ specified }) (answer.memory refl)
 
-  -- memory was wanting for one of the operations that were given
-  pub operation : (r : State) (was : Bool) (more : List Op) → GivesMany old new before after more → WantsMemory was r more → LacksBehind old.grammar bytes ops was r
+  -- memory ran out for one of the operations that were given
+  pub operation : (r : State) (was : Bool) (more : List Op) → GivesMany old new before after more → WantsMemory was r more → LacksAfter old.grammar bytes ops was r
   operation r was more gives lacks = record {
     more = lacks.front;
     now = true;
@@ -129,7 +129,7 @@ module _ (bytes : List ℕ) (ops : List Op) (old new : FrameReading) (before aft
       gave : Gave (Some bytes) (ops ++ more) new after.left
       gave = gives.gave (Some bytes) ops reading.gave
 
-      -- those before the one, that one, and those behind it
+      -- those before the one, that one, and those after it
       parts : (ops ++ more) ++ new.todo ≡ (ops ++ lacks.front) ++ lacks.op ∷ (lacks.more ++ new.todo)
       parts = ap (λ (l : List Op). (ops ++ l) ++ new.todo) lacks.parts ∙ append_assoc ops (lacks.front ++ lacks.op ∷ lacks.more) new.todo
           ∙ ap (λ (l : List Op). ops ++ l) (append_assoc lacks.front (lacks.op ∷ lacks.more) new.todo)
@@ -145,7 +145,7 @@ module _ (bytes : List ℕ) (ops : List Op) (old new : FrameReading) (before aft
         split = same_Some _ _ specified;
       }) refl lacks.kept
 
--- memory was wanting for a piece, of which nothing was taken in yet
+-- memory ran out for a piece, of which nothing was taken in yet
 pub lacks_none : (grammar : Grammar) (Begins : List ℕ → Type 0) (bytes : List ℕ) (was : Bool) (old : State) → Begins bytes → Lacks grammar Begins bytes was old
 lacks_none grammar Begins bytes was old begins = record {
   ops = [];
@@ -159,7 +159,7 @@ lacks_none grammar Begins bytes was old begins = record {
 module _ (grammar : Grammar) (bytes : List ℕ) (ops : List Op) (was now : Bool) (old new : State) (reader : FrameReading) (source : SourceView) where
   -- a step that answers so
   pub steps_wanting : (result : Result (Option ℕ) Stop) (stop : Stop) → result ≡ Err stop → stop ≡ stop_is.NoMemory
-      → LacksBehind grammar bytes ops was old → PieceSteps grammar bytes ops was old now new reader source result
+      → LacksAfter grammar bytes ops was old → PieceSteps grammar bytes ops was old now new reader source result
   steps_wanting result stop is same wanting = subst (PieceSteps grammar bytes ops was old now new reader source) (sym (is ∙ ap (λ (s : Stop). Err s) same)) wanting
 
   -- the same step by a grammar that is the same
@@ -167,12 +167,12 @@ module _ (grammar : Grammar) (bytes : List ℕ) (ops : List Op) (was now : Bool)
       → PieceSteps grammar bytes ops was old now new reader source result
   steps_by other result same steps = subst (λ (g : Grammar). PieceSteps g bytes ops was old now new reader source result) same steps
 
-  -- a step for which memory was wanting
+  -- a step for which memory ran out
   pub steps_lacks : (first : Bool) (begin : State) (stop : Stop) → Feeds first begin was old ops → IsSameButHeld begin old
       → PieceSteps grammar bytes ops was old now new reader source (Err stop)
       → stop ≡ stop_is.NoMemory → Lacks grammar (λ rest. rest ≡ bytes) bytes first begin
   steps_lacks first begin stop feeds same steps is =
-      let lacks : LacksBehind grammar bytes ops was old = subst (λ s. PieceSteps grammar bytes ops was old now new reader source (Err s)) is steps in
+      let lacks : LacksAfter grammar bytes ops was old = subst (λ s. PieceSteps grammar bytes ops was old now new reader source (Err s)) is steps in
       record {
         ops = ops ++ lacks.more;
         now = lacks.now;

@@ -1,4 +1,4 @@
--- How far a disk was read, look behind look.
+-- How far a disk was read, look after look.
 use Rattle.std.proofs.Common.{◌≡◌, ℕ, ◌+◌, ◌≤◌, List, length, take, ap, arith, length-append, subst, sym}
 use Rattle.std.specs.Prelude.{Option, Some, None, Result, Ok, Err, IfOk, OnOk, option_map}
 use Rattle.std.proofs.lemmas.List.{length-take-le}
@@ -23,7 +23,7 @@ reaches_once at count n o p within is = subst (ReachesTo n o) (sym is) (once o)
     once None = tt
     once (Some before) = omega (arith, within)
 
--- one behind the other
+-- one after the other
 pub reaches_then : (m n k : ℕ) (a b c : Option ℕ) → m ≤ k → n ≤ k → ReachesTo m a b → ReachesTo n b c → ReachesTo k a c
 reaches_then m n k None b c one_fits two_fits one two = tt
 reaches_then m n k (Some x) None c one_fits two_fits one two = absurd one
@@ -44,7 +44,7 @@ more_reaches a b c at filled n before after within more kept =
     reaches_then (at + length before) (at + length before) (at + length after) a.reach b.reach c.reach (omega (arith, long)) (omega (arith, long)) kept
     (reaches_once (at + filled) (length more.part) (at + length before) b.reach c.reach (omega (arith, more.long, within)) more.read.asked)
 
--- the gate behind a slot is the furthest byte of it that is read
+-- the gate after a slot is the furthest byte of it that is read
 pub gate_reaches : (result : Result Gate Stop) (at : ℕ) (a b c : Option ℕ) → IfOk result (λ gate. gate.at ≡ at) → OnOk result (ReachesTo (at + 1) b c) → ReachesTo at a b
     → IfOk result (λ gate. ReachesTo (gate.at + 1) a c)
 gate_reaches (Err e) at a b c is last first = tt

@@ -11,7 +11,7 @@ both : {X : Type 0} (o p : Option X) (P Q R : Type 0) → p ≡ o → (P → Q �
 both None p P Q R same join one two = tt
 both (Some x) p P Q R same join one two = join one (subst (λ q. IfSome q (λ y. Q)) same two)
 
--- a look behind others
+-- a look after others
 pub looks_then : (F : Type 0) (a b c : DiskView) → LooksOnly a b ⊥ → LooksOnly b c F → LooksOnly a c F
 looks_then F a b c one two = record {
   past = two.past ∙ one.past;

@@ -18,12 +18,12 @@ use Rattle.replica_file.proofs.LoadingLemmas.{feeds_none}
 use Rattle.replica_file.proofs.ReadingLemmas.{drop_twice}
 
 module _ (bytes : List ℕ) (at : ℕ) where
-  -- the bytes behind the gate
+  -- the bytes after the gate
   abbrev behind : List ℕ
   behind = drop (at + 1) bytes
 
-  frames_behind : drop 4 behind ≡ drop (at + 5) bytes
-  frames_behind = drop_twice 4 (at + 1) bytes ∙ ap (λ (n : ℕ). drop n bytes) {x = at + 1 + 4} {y = at + 5} (omega arith)
+  frames_after : drop 4 behind ≡ drop (at + 5) bytes
+  frames_after = drop_twice 4 (at + 1) bytes ∙ ap (λ (n : ℕ). drop n bytes) {x = at + 1 + 4} {y = at + 5} (omega arith)
 
   -- the word is not there, or none that a slot has
   pub bad_word : HasNoWord bytes (at + 1) → (slot : ℕ) → IsNoBatch slot behind
@@ -34,11 +34,11 @@ module _ (bytes : List ℕ) (at : ℕ) where
   module _ (word : Word) (is : IsWord bytes (at + 1) word) where
     -- the frames are not all there, or no frames
     pub bad_frames : HasNoFrames word.grammar bytes (at + 5) word.len → (slot : ℕ) → IsNoBatch slot behind
-    bad_frames (inl short) slot = CutShort (omega (arith, ap length frames_behind, short, is.len_is))
+    bad_frames (inl short) slot = CutShort (omega (arith, ap length frames_after, short, is.len_is))
     bad_frames (inr off) slot = NoFrames word.grammar is.tagged (λ ops reads. never_whole word.grammar (file_part bytes (at + 5) word.len) off ops
-        (subst (λ (l : List ℕ). Reads word.grammar l ops Whole) ((λ i. take (sym is.len_is i) (frames_behind i))) reads))
+        (subst (λ (l : List ℕ). Reads word.grammar l ops Whole) ((λ i. take (sym is.len_is i) (frames_after i))) reads))
 
-    -- memory was wanting for the frames
+    -- memory ran out for the frames
     pub slot_lacks : (was : Bool) (old : State) → word.len ≤ LONGEST_BATCH
         → Lacks word.grammar (BeginsPiece word.grammar bytes (at + 5) word.len) (file_part bytes (at + 5) word.len) was old → LacksInSlot bytes at was old
     slot_lacks was old short lacks = record {
@@ -48,7 +48,7 @@ module _ (bytes : List ℕ) (at : ℕ) where
       lacks = subst (λ (n : ℕ). Lacks word.grammar (BeginsPiece word.grammar bytes (at + 5) n) (file_part bytes (at + 5) n) was old) is.len_is lacks;
     }
 
-    -- memory was wanting before the first of them was read
+    -- memory ran out before the first of them was read
     pub slot_begins : (was : Bool) (old : State) → word.len ≤ LONGEST_BATCH → LacksInSlot bytes at was old
     slot_begins was old short = slot_lacks was old short (record {
       ops = [];
@@ -60,10 +60,10 @@ module _ (bytes : List ℕ) (at : ℕ) where
           (record { taken = 0; pieces = []; are_pieces = refl; rest_is = refl });
     })
 
-    -- no byte is there behind them
+    -- no byte is there after them
     pub bad_gate : length (file_part bytes (at + 5) word.len) ≡ word.len → length bytes ≤ at + 5 + word.len → (slot : ℕ) → IsNoBatch slot behind
     bad_gate long ends slot =
-        NoGate (omega (arith, ap length frames_behind, is.len_is, long, ends, length-drop (at + 5) bytes, length-take word.len (drop (at + 5) bytes)))
+        NoGate (omega (arith, ap length frames_after, is.len_is, long, ends, length-drop (at + 5) bytes, length-take word.len (drop (at + 5) bytes)))
 
     -- a batch
     pub slot_took : (next : Gate) (was now : Bool) (old new : State) → word.len ≤ LONGEST_BATCH → TakesFrames word.grammar bytes (at + 5) word.len was old now new
@@ -82,7 +82,7 @@ module _ (bytes : List ℕ) (at : ℕ) where
           };
           split = sym (take-append-drop 4 behind)
               ∙ ap (λ (l : List ℕ). take 4 behind ++ l)
-              (frames_behind ∙ sym (take-append-drop word.len (drop (at + 5) bytes)) ∙ ap (λ (l : List ℕ). file_part bytes (at + 5) word.len ++ l) rest)
+              (frames_after ∙ sym (take-append-drop word.len (drop (at + 5) bytes)) ∙ ap (λ (l : List ℕ). file_part bytes (at + 5) word.len ++ l) rest)
               ∙ sym (append_assoc (take 4 behind) (file_part bytes (at + 5) word.len) (drop next.at bytes));
           next_at = next_is ∙ ap (λ (n : ℕ). at + 5 + n) (sym took.long);
           gate = gate;

@@ -18,19 +18,19 @@ use Rattle.replica_file.specs.Loading.{AreIn, Fed, IsSameButHeld}
 use Rattle.replica_file.specs.Slots.{IsGate, LacksInSlot, TakesSlot, Walked, WalksOut}
 use Rattle.replica_file.specs.Wanting.{BeginsPiece, ForContent, ForOperation, ForPiece, IsWanting, file_part}
 
--- a gate, and what stands behind it
-pub gate_behind : (bytes : List ℕ) (at byte : ℕ) → slice_get bytes at ≡ Some byte → drop at bytes ≡ byte ∷ drop (at + 1) bytes
-gate_behind bytes at byte is =
+-- a gate, and what stands after it
+pub gate_after : (bytes : List ℕ) (at byte : ℕ) → slice_get bytes at ≡ Some byte → drop at bytes ≡ byte ∷ drop (at + 1) bytes
+gate_after bytes at byte is =
     drop-cons bytes at 0 (slice_get_within bytes at byte is) ∙ (λ i. get_or_from_slice_get bytes at byte 0 is i ∷ drop (sym (add-one at) i) bytes)
 
 not_none : (bytes : List ℕ) (at byte : ℕ) → slice_get bytes at ≡ Some byte → drop at bytes ≢ []
-not_none bytes at byte is none = let some = sym none ∙ gate_behind bytes at byte is in cc some
+not_none bytes at byte is none = let some = sym none ∙ gate_after bytes at byte is in cc some
 
 module _ (bytes : List ℕ) (slots : ℕ) (gate : Gate) (r : State) (w : Walked bytes slots gate r) where
   module _ (open_now : gate.open ≡ true) where
     -- the bytes from an open gate on
     open_gate : drop gate.at bytes ≡ 1 ∷ drop (gate.at + 1) bytes
-    open_gate = gate_behind bytes gate.at w.is_gate.byte w.is_gate.is ∙ ap (λ (n : ℕ). n ∷ drop (gate.at + 1) bytes) (w.is_gate.opens open_now)
+    open_gate = gate_after bytes gate.at w.is_gate.byte w.is_gate.is ∙ ap (λ (n : ℕ). n ∷ drop (gate.at + 1) bytes) (w.is_gate.opens open_now)
 
     -- an open slot without a batch
     pub walk_bad : (most : ℕ) → r.most ≡ most → IsNoBatch slots (drop (gate.at + 1) bytes) → FindsBadBatch most bytes slots
@@ -46,7 +46,7 @@ module _ (bytes : List ℕ) (slots : ℕ) (gate : Gate) (r : State) (w : Walked 
       place = subst (λ (h : ℕ). FindPlace h most (batch_ops w.batches)) w.hold_is (subst (λ (m : ℕ). FindPlace r.hold m (batch_ops w.batches)) limit w.fed.place);
     }
 
-    -- memory was wanting in an open slot
+    -- memory ran out in an open slot
     module _ (most : ℕ) (limit : r.most ≡ most) (was : Bool) (was_so : was ≡ true) (few : slots < last_slot) (slot : LacksInSlot bytes gate.at was r) where
       abbrev reached : List Op
       reached = batch_ops w.batches ++ slot.lacks.ops
@@ -164,7 +164,7 @@ walk_out bytes most end r limit out =
           batches = w.batches;
           gate = w.is_gate.byte;
           rest = drop (out.gate.at + 1) bytes;
-          found = subst (OpenSlots (slots_of bytes) w.batches) (gate_behind bytes out.gate.at w.is_gate.byte w.is_gate.is) w.found;
+          found = subst (OpenSlots (slots_of bytes) w.batches) (gate_after bytes out.gate.at w.is_gate.byte w.is_gate.is) w.found;
           closed = w.is_gate.shuts out.shut;
           content_is = refl;
         },

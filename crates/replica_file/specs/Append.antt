@@ -16,17 +16,17 @@ use Rattle.replica_file.specs.Ends.{EndsAtGate, IsWithinReach, Means}
 use Rattle.replica_file.specs.Faults.{AccountsForFaults}
 use Rattle.replica_file.specs.Gates.{LastsForCalls, gate_opened, spent_opening}
 
--- what is written behind a slot's gate: the word, the frames, and the next gate, which is closed
-abbrev pub behind_gate : List Op → List ℕ
-behind_gate ops = to_be_bytes w32 (word_of Version2 (length (frames ops))) ++ frames ops ++ 0 ∷ []
+-- what is written after a slot's gate: the word, the frames, and the next gate, which is closed
+abbrev pub after_gate : List Op → List ℕ
+after_gate ops = to_be_bytes w32 (word_of Version2 (length (frames ops))) ++ frames ops ++ 0 ∷ []
 
 -- the frames are too long for one batch, or there is no slot for them
 abbrev pub IsTooLong : End → List Op → Type 0
 IsTooLong end ops = (LONGEST_BATCH < length (frames ops)) ⊎ ((ops ≢ []) × (end.slots ≡ last_slot))
 
--- the end behind one more slot
+-- the end after one more slot
 abbrev pub next_end : End → List Op → End
-next_end end ops = record { at = end.at + length (behind_gate ops); slots = end.slots + 1 }
+next_end end ops = record { at = end.at + length (after_gate ops); slots = end.slots + 1 }
 
 -- what a file holds with one more batch
 abbrev pub content_with_ops : Content → List Op → Content
@@ -34,7 +34,7 @@ content_with_ops content ops = record {
   replica = content.replica;
   hold = content.hold;
   ops = content.ops ++ ops;
-  at = content.at + length (behind_gate ops);
+  at = content.at + length (after_gate ops);
   slots = content.slots + 1;
 }
 
@@ -50,12 +50,12 @@ pub record HasBatch (content : Content) (end : End) (ops : List Op) (s : DiskSta
 
 -- the operations were appended as one batch
 pub record IsAppended (end : End) (ops : List Op) (old new : DiskView) (last : End) : Type 0 where
-  -- the meaning ends behind it
+  -- the meaning ends after it
   pub last_is : last ≡ next_end end ops
-  -- it was written behind the gate at the end, which was opened then
-  pub calls : new.past ≡ gate_opened end.at (behind_gate ops) old.past
+  -- it was written after the gate at the end, which was opened then
+  pub calls : new.past ≡ gate_opened end.at (after_gate ops) old.past
   -- that took four calls
-  pub room : new.room ≡ spent_opening (behind_gate ops) old.room
+  pub room : new.room ≡ spent_opening (after_gate ops) old.room
   -- the file, where it is specified, has the batch
   pub has : IfSome old.past (λ h. (content : Content) → Means h.last content → IfSome new.past (λ k. HasBatch content end ops k.last))
 
@@ -63,7 +63,7 @@ pub record IsAppended (end : End) (ops : List Op) (old new : DiskView) (last : E
 pub record AppendMeets (end : End) (ops : List Op) (old new : DiskView) (result : Result End AppendFault) : Type 0 where
   -- no operations are no batch
   pub none : ops ≡ [] → (result ≡ Ok end) × (new ≡ old)
-  -- the operations are too long exactly where that is answered, but for want of memory
+  -- the operations are too long exactly where that is answered, but for lack of memory
   pub too_long : result ≢ Err NoMemory → (result ≡ Err BatchTooLong) ↔ IsTooLong end ops
   -- nothing was done then
   pub untouched : (result ≡ Err BatchTooLong) ⊎ (result ≡ Err NoMemory) → new ≡ old
@@ -76,4 +76,4 @@ pub record AppendMeets (end : End) (ops : List Op) (old new : DiskView) (result 
   -- a read gives something that a crash may leave
   pub honest : IfSome old.past (λ h. IsHonest h.last) → IfSome new.past (λ k. IsHonest k.last)
   -- two writes and two syncs may fail
-  pub faults : AccountsForFaults old new (LastsForCalls (behind_gate ops)) (result ≡ Err DiskFault)
+  pub faults : AccountsForFaults old new (LastsForCalls (after_gate ops)) (result ≡ Err DiskFault)

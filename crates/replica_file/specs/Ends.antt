@@ -9,7 +9,7 @@ use Rattle.replica_file.specs.declared.load_file.End.{End}
 abbrev pub longest_slot : ℕ
 longest_slot = LONGEST_BATCH + 5
 
--- where a gate behind so many slots stands at most: behind the 13 bytes of the header and the longest slots
+-- where a gate after so many slots stands at most: after the 13 bytes of the header and the longest slots
 abbrev pub farthest_gate : ℕ → ℕ
 farthest_gate slots = 13 + longest_slot * slots
 

@@ -1,4 +1,4 @@
--- What loading a file comes to.
+-- What loading a file gives by the file's bytes: a replica and where its meaning ends, or why there is none.
 use Rattle.std.specs.Prelude.{◌≡◌, ◌↔◌, ℕ, ◌+◌, ◌<◌, ◌≤◌, List, [], ◌∷◌, ◌++◌, length, drop, true, false, Contains, Result, Ok, Err}
 use Rattle.fugue_ids.specs.declared.op.Op.{Op}
 use Rattle.outer_ports.specs.disk.Disks.{RoomView}
@@ -53,7 +53,7 @@ pub record FindsTooMany (most : ℕ) (bytes : List ℕ) : Type 0 where
   pub place : FindPlace (hold_of bytes) most (batch_ops earlier)
   pub refused : AreTooMany (hold_of bytes) most (batch_ops (earlier ++ batch ∷ []))
 
--- Memory was wanting in an open slot, where a piece of its batch was to be read, or for the operation that comes next.
+-- Memory ran out in an open slot, where a piece of its batch was to be read, or for the operation that comes next.
 -- No byte in front of that place is at fault, and the operations of the slots before it can all be taken in.
 pub record LacksMemory (most : ℕ) (bytes : List ℕ) : Type 0 where
   pub header : has_header bytes ≡ true
@@ -72,7 +72,7 @@ pub record LacksMemory (most : ℕ) (bytes : List ℕ) : Type 0 where
       (file_part bytes (at + 5) (length_at (at + 1) bytes)) ops (hold_of bytes) most
       (held (hold_of bytes) most (batch_ops earlier ++ ops)) (FindPlace (hold_of bytes) most (batch_ops earlier ++ ops))
 
--- the bytes decide such an answer: it is no fault of the disk, and no want of memory
+-- the bytes decide such an answer: it is no fault of the disk, and no allocation failure
 abbrev pub IsLoadByBytes : Result (State × End) LoadFault → Type 0
 IsLoadByBytes (Err DiskFault) = ⊥
 IsLoadByBytes (Err NoMemory) = ⊥
@@ -87,7 +87,7 @@ LoadAnswerIs most bytes (Err (TooMany count)) = (count ≡ most) × FindsTooMany
 LoadAnswerIs most bytes (Err DiskFault) = Unit {0}
 LoadAnswerIs most bytes (Err NoMemory) = LacksMemory most bytes
 
--- each answer comes exactly where the bytes say so, but for a fault of the disk and want of memory
+-- each answer comes exactly where the bytes say so, but for a fault of the disk and an allocation failure
 abbrev pub LoadAnswersBy : Result (State × End) LoadFault → (most : ℕ) → List ℕ → Type 0
 LoadAnswersBy result most bytes = IsLoadByBytes result → (answer : Result (State × End) LoadFault) → IsLoadByBytes answer
     → (result ≡ answer) ↔ LoadAnswerIs most bytes answer

@@ -1,4 +1,4 @@
--- What loading a file does to it, and answers.
+-- What a call that loads a file gives, and what it leaves of the disk.
 use Rattle.std.specs.Prelude.{◌≡◌, ◌⊎◌, ℕ, ◌+◌, Result, Err, IfOk, IfSome}
 use Rattle.outer_ports.specs.disk.Disks.{DiskView, room_after_write}
 use Rattle.outer_ports.specs.disk.Moments.{LeavesOnlyTo, MayLeave, past_after_step}
@@ -21,14 +21,14 @@ pub record IsLoaded (old new : DiskView) (replica : State) (end : End) : Type 0 
   pub ends : IfSome new.past (λ h. EndsAtGate h.last end)
   -- and where it is not specified, the slots can reach so far
   pub reaches : IsWithinReach end
-  -- no byte behind the gate at the end was asked for
+  -- no byte after the gate at the end was asked for
   pub reach : ReadsNoFurther (end.at + 1) old new
 
 -- a load that may take in so many operations
 pub record LoadMeets (most : ℕ) (old new : DiskView) (result : Result (State × End) LoadFault) : Type 0 where
   -- the bytes, where they are specified, are the cause of the answer
   pub cause : IfSome old.past (λ h. LoadAnswerIs most h.last.seen result)
-  -- and each answer comes exactly where they are, but for a fault of the disk and want of memory
+  -- and each answer comes exactly where they are, but for a fault of the disk and an allocation failure
   pub exactly : IfSome old.past (λ h. LoadAnswersBy result most h.last.seen)
   -- what an answer without a fault gives
   pub loaded : IfOk result (λ loaded. IsLoaded old new loaded.0 loaded.1)

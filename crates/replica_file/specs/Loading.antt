@@ -23,7 +23,7 @@ abbrev pub Fed : Bool → State → List Op → Type 0
 Fed true replica ops = AreIn replica ops
 Fed false replica ops = AreTooMany replica.hold replica.most ops
 
--- from one state to another, these operations were taken in, behind whatever was before
+-- from one state to another, these operations were taken in, after whatever was before
 pub record Feeds (was : Bool) (old : State) (now : Bool) (new : State) (ops : List Op) : Type 0 where
   pub behind : (before : List Op) → Fed was old before → Fed now new (before ++ ops)
 
@@ -31,8 +31,8 @@ pub record Feeds (was : Bool) (old : State) (now : Bool) (new : State) (ops : Li
 abbrev pub IsSameButHeld : State → State → Type 0
 IsSameButHeld old new = new ≡ record old { held = new.held }
 
--- The first of the operations were taken in, and memory was wanting for the next one, which would be kept: all before
--- it found their place.
+-- The first of the operations were taken in, and memory ran out for the next one, which would be kept: all before it
+-- found their place.
 pub record WantsMemory (was : Bool) (old : State) (ops : List Op) : Type 0 where
   pub front : List Op
   pub op : Op

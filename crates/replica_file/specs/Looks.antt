@@ -1,4 +1,4 @@
--- What looking at a disk does to it, and what it gives.
+-- Calls that only read a disk: what they give, and what they leave as it was.
 use Rattle.std.specs.Prelude.{◌≡◌, ℕ, ◌+◌, ◌-◌, ◌≤◌, max, List, ◌++◌, length, take, Option, Some, None, Result, IfSome}
 use Rattle.fugue_ids.specs.Causes.{Faulted}
 use Rattle.outer_ports.specs.disk.Disks.{DiskIsSpecified, DiskView, ReadsAt}
@@ -9,7 +9,7 @@ ReachesTo offset None new = Unit {0}
 ReachesTo offset (Some before) None = ⊥
 ReachesTo offset (Some before) (Some now) = now ≤ max before offset
 
--- no byte at or behind this offset was asked for
+-- no byte at or after this offset was asked for
 abbrev pub ReadsNoFurther : (offset : ℕ) → (old new : DiskView) → Type 0
 ReadsNoFurther offset old new = ReachesTo offset old.reach new.reach
 

@@ -16,15 +16,15 @@ accepted_by hold batches = length (held hold MOST_OPERATIONS (batch_ops batches)
 abbrev pub new_moment : (before now : ℕ) → List ℕ
 new_moment before now = if nat_lt before now then now ∷ [] else []
 
--- the moments of batches that come behind others: of each one with which more are accepted, how many are
-abbrev pub moments_behind : (hold : ℕ) (earlier batches : List Batch) → List ℕ
-moments_behind hold earlier [] = []
-moments_behind hold earlier (batch ∷ batches) =
-    new_moment (accepted_by hold earlier) (accepted_by hold (earlier ++ batch ∷ [])) ++ moments_behind hold (earlier ++ batch ∷ []) batches
+-- the moments of batches that come after others: of each one with which more are accepted, how many are
+abbrev pub moments_after : (hold : ℕ) (earlier batches : List Batch) → List ℕ
+moments_after hold earlier [] = []
+moments_after hold earlier (batch ∷ batches) =
+    new_moment (accepted_by hold earlier) (accepted_by hold (earlier ++ batch ∷ [])) ++ moments_after hold (earlier ++ batch ∷ []) batches
 
 -- the moments of batches: of each with which more operations are accepted, how many are
 abbrev pub moments_of : (hold : ℕ) → List Batch → List ℕ
-moments_of hold batches = moments_behind hold [] batches
+moments_of hold batches = moments_after hold [] batches
 
 -- the bytes are a replica's file, and its batches have these moments
 pub record HasMoments (bytes moments : List ℕ) : Type 0 where

@@ -18,15 +18,15 @@ pub record IsReading (bytes : List ℕ) (ops : List Op) (reader : FrameReading) 
   pub fits : length bytes ≡ reader.limit
   pub sure : source.sure ≡ true
 
--- behind some frames stands none, and nothing that begins one
+-- after some frames stands none, and nothing that begins one
 pub record AreBad (grammar : Grammar) (bytes : List ℕ) : Type 0 where
   pub ops : List Op
   pub rest : List ℕ
   pub starts : Starts grammar bytes ops rest
   pub bad : IsBad grammar rest
 
--- more operations were taken in behind these, and memory was wanting for what stands behind them
-pub record LacksBehind (grammar : Grammar) (bytes : List ℕ) (ops : List Op) (was : Bool) (old : State) : Type 0 where
+-- more operations were taken in after these, and memory ran out for what stands after them
+pub record LacksAfter (grammar : Grammar) (bytes : List ℕ) (ops : List Op) (was : Bool) (old : State) : Type 0 where
   pub more : List Op
   pub now : Bool
   pub new : State
@@ -34,7 +34,7 @@ pub record LacksBehind (grammar : Grammar) (bytes : List ℕ) (ops : List Op) (w
   pub same : IsSameButHeld old new
   pub wants : IsWanting grammar (λ rest. rest ≡ bytes) bytes (ops ++ more) new.hold new.most new.held (now ≡ true)
 
--- one step over a piece: some operations more were taken in, or the whole frames are over, or what follows is bad, or memory was wanting
+-- one step over a piece: some operations more were taken in, or the whole frames are over, or what follows is bad, or memory ran out
 abbrev pub PieceSteps : Grammar → List ℕ → List Op → (was : Bool) (old : State) (now : Bool) (new : State) → FrameReading → SourceView
     → Result (Option ℕ) Stop → Type 0
 PieceSteps grammar bytes ops was old now new reader source (Ok None) =
@@ -43,7 +43,7 @@ PieceSteps grammar bytes ops was old now new reader source (Ok (Some len)) =
     AreWholeFrames grammar bytes len ops × (now ≡ was) × (new ≡ old)
 PieceSteps grammar bytes ops was old now new reader source (Err Bad) = AreBad grammar bytes
 PieceSteps grammar bytes ops was old now new reader source (Err Disk) = ⊥
-PieceSteps grammar bytes ops was old now new reader source (Err NoMemory) = LacksBehind grammar bytes ops was old
+PieceSteps grammar bytes ops was old now new reader source (Err NoMemory) = LacksAfter grammar bytes ops was old
 
 -- the whole frames at the front of a piece were taken in
 pub record TakesInPiece (grammar : Grammar) (bytes : List ℕ) (len : ℕ) (was : Bool) (old : State) (now : Bool) (new : State) : Type 0 where
@@ -51,8 +51,8 @@ pub record TakesInPiece (grammar : Grammar) (bytes : List ℕ) (len : ℕ) (was 
   pub whole : AreWholeFrames grammar bytes len ops
   pub feeds : Feeds was old now new ops
 
--- The operations at the front of the bytes were taken in, and memory was wanting for what stands behind them: to read
--- on, or for the next operation.
+-- The operations at the front of the bytes were taken in, and memory ran out for what stands after them: to read on,
+-- or for the next operation.
 pub record Lacks (grammar : Grammar) (Begins : List ℕ → Type 0) (bytes : List ℕ) (was : Bool) (old : State) : Type 0 where
   pub ops : List Op
   pub now : Bool

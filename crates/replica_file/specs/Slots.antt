@@ -33,7 +33,7 @@ pub record TakesFrames (grammar : Grammar) (bytes : List ℕ) (at len : ℕ) (wa
   pub reads : Reads grammar (file_part bytes at len) ops Whole
   pub feeds : Feeds was old now new ops
 
--- behind some frames stand bytes that are no whole frame and begin none
+-- after some frames stand bytes that are no whole frame and begin none
 pub record EndsOff (grammar : Grammar) (bytes : List ℕ) : Type 0 where
   pub ops : List Op
   pub rest : List ℕ
@@ -44,7 +44,7 @@ pub record EndsOff (grammar : Grammar) (bytes : List ℕ) : Type 0 where
 abbrev pub HasNoFrames : Grammar → List ℕ → (at len : ℕ) → Type 0
 HasNoFrames grammar bytes at len = (length (drop at bytes) < len) ⊎ EndsOff grammar (file_part bytes at len)
 
--- the word of the batch behind a gate was read, and memory was wanting for its frames
+-- the word of the batch after a gate was read, and memory ran out for its frames
 pub record LacksInSlot (bytes : List ℕ) (at : ℕ) (was : Bool) (old : State) : Type 0 where
   pub grammar : Grammar
   pub tagged : word_tag (number_at (at + 1) bytes) ≡ tag_of grammar

@@ -1,4 +1,4 @@
--- Where memory may be wanting while the frames of a batch are read.
+-- Where memory may run out while the frames of a batch are read.
 use Rattle.std.specs.Prelude.{◌≡◌, ◌⊎◌, ℕ, ◌+◌, ◌-◌, ◌≤◌, min, List, [], ◌∷◌, ◌++◌, length, take, drop, true}
 use Rattle.fugue_ids.specs.declared.op.Op.{Op}
 use Rattle.origin_model.specs.declared.grammar.Grammar.{Grammar}
@@ -10,7 +10,7 @@ use Rattle.op_frame.specs.FrameFronts.{AsksMemory}
 abbrev pub file_part : List ℕ → (at len : ℕ) → List ℕ
 file_part bytes at len = take len (drop at bytes)
 
--- frames of the operations are the first so many bytes, and behind them there is at most the front of one more
+-- frames of the operations are the first so many bytes, and after them there is at most the front of one more
 pub record AreWholeFrames (grammar : Grammar) (bytes : List ℕ) (len : ℕ) (ops : List Op) : Type 0 where
   pub inside : len ≤ length bytes
   pub starts : Starts grammar bytes ops (drop len bytes)
@@ -32,7 +32,7 @@ pub record BeginsPiece (grammar : Grammar) (bytes : List ℕ) (at len : ℕ) (re
   pub are_pieces : AreFilePieces grammar bytes at len pieces taken
   pub rest_is : rest ≡ drop taken (file_part bytes at len)
 
--- Why memory was wanting behind these operations, which frames at the front of the bytes stand for: they are all taken in.
+-- Why memory ran out after these operations, which frames at the front of the bytes stand for: they are all taken in.
 pub data IsWanting (grammar : Grammar) (Begins : List ℕ → Type 0) (bytes : List ℕ) (ops : List Op) (hold most : ℕ) (s : Held)
     (places : Type 0) : Type 0 where
   -- the rest was still to be read

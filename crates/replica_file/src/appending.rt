@@ -4,8 +4,8 @@ ghost use Rattle.replica_file.specs.Append.{AppendMeets};
 ghost use Rattle.replica_file.specs.Ends.{EndsAtGate, IsWithinReach};
 
 use crate::End;
-use crate::batch::bytes_behind_gate;
-use crate::gate::write_behind;
+use crate::batch::bytes_after_gate;
+use crate::gate::write_after;
 use fugue_ids::{Failed, NoMemory};
 use op_runs::OpSlice;
 use outer_ports::Disk;
@@ -44,7 +44,7 @@ impl From<NoMemory> for AppendFault {
     }
 }
 
-/// Appends the operations as one batch, and answers where the file's meaning ends then. At every moment a crash leaves
+/// Appends the operations as one batch, and returns where the file's meaning ends then. At every moment a crash leaves
 /// all of the batch or none. No operations are no batch: then the file is left as it is.
 pub fn append<H: Disk>(
     alloc: Global,
@@ -62,8 +62,8 @@ pub fn append<H: Disk>(
     if end.slots == u32::MAX {
         return Err(AppendFault::BatchTooLong);
     }
-    let bytes = bytes_behind_gate(alloc, ops)?;
-    write_behind(disk, end.at, &bytes)?;
+    let bytes = bytes_after_gate(alloc, ops)?;
+    write_after(disk, end.at, &bytes)?;
     Ok(End {
         at: end.at + bytes.len() as u64,
         slots: end.slots + 1,

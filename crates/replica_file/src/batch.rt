@@ -6,7 +6,7 @@ ghost use Rattle.origin_model.specs.declared.grammar.Grammar.TheVariants.{Versio
 ghost use Rattle.origin_model.specs.files.Image.{word_of};
 ghost use Rattle.origin_model.specs.frames.Frames.{HasFrame};
 ghost use Rattle.origin_model.specs.frames.Framings.{frames};
-ghost use Rattle.replica_file.specs.Append.{behind_gate};
+ghost use Rattle.replica_file.specs.Append.{after_gate};
 
 use crate::AppendFault;
 use crate::gate::CLOSED;
@@ -19,9 +19,9 @@ use std::alloc::Global;
 /// How many bytes the word of a slot has.
 pub(crate) const WORD: usize = 4;
 
-/// What is written behind the gate of a slot with these operations.
-pub(crate) fn bytes_behind_gate(alloc: Global, ops: OpSlice<'_>) -> Result<Vec<u8>, AppendFault>
-    ensures bytes { IfOk result (λ bytes. bytes.items ≡ behind_gate ops.entry) }
+/// What is written after the gate of a slot with these operations.
+pub(crate) fn bytes_after_gate(alloc: Global, ops: OpSlice<'_>) -> Result<Vec<u8>, AppendFault>
+    ensures bytes { IfOk result (λ bytes. bytes.items ≡ after_gate ops.entry) }
     ensures have_frames { OnOk result (All HasFrame ops.entry) }
     ensures short { OnOk result (length (frames ops.entry) ≤ LONGEST_BATCH) }
     ensures too_long { result ≢ Err AppendFault.NoMemory
@@ -46,7 +46,7 @@ fn put_word(bytes: &mut [u8], len: u32)
     bytes[..WORD].copy_from_slice(&(TAG_UNIT + len).to_be_bytes());
 }
 
-/// What is written behind the gate, but with 0 in the place of the word.
+/// What is written after the gate, but with 0 in the place of the word.
 fn without_word(alloc: Global, ops: OpSlice<'_>) -> Result<Vec<u8>, NoMemory>
     ensures bytes { IfOk result (λ bytes. bytes.items ≡ (0 ∷ 0 ∷ 0 ∷ 0 ∷ []) ++ frames ops.entry ++ 0 ∷ []) }
     ensures have_frames { OnOk result (All HasFrame ops.entry) }

@@ -50,7 +50,7 @@ pub(crate) fn take_frames<H: Disk>(
     Ok(())
 }
 
-/// Takes the whole frames of the next piece in, and answers how many bytes they have, which are some.
+/// Takes the whole frames of the next piece in, and returns how many bytes they have, which are some.
 fn take_some<H: Disk>(
     alloc: Global,
     disk: &mut H,

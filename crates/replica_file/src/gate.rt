@@ -23,8 +23,8 @@ pub(crate) const OPEN: u8 = 1;
 /// The byte in the place of a slot that is still to come. Any other but `OPEN` says the same.
 pub(crate) const CLOSED: u8 = 0;
 
-/// Writes the bytes behind the closed gate, and opens it once they are settled.
-pub(crate) fn write_behind<H: Disk>(disk: &mut H, gate: u64, bytes: &[u8]) -> Result<(), Failed>
+/// Writes the bytes after the closed gate, and opens it once they are settled.
+pub(crate) fn write_after<H: Disk>(disk: &mut H, gate: u64, bytes: &[u8]) -> Result<(), Failed>
     requires agrees { IfSome (H.seen disk.old).past (λ h. Agrees h.last (gate + 1)) }
     requires small { gate + 1 < 2 ^ 64 }
     ensures moments { IfSome (H.seen disk.old).past (λ h.

@@ -32,7 +32,7 @@ pub struct End {
 pub enum LoadFault {
     #[error("no replica's file")]
     NotReplica,
-    /// The open slot of this number has no batch, or no byte stands behind it.
+    /// The open slot of this number has no batch, or no byte stands after it.
     #[error("bad batch in slot {0}")]
     BadBatch(u32),
     #[error("the disk failed")]
@@ -69,8 +69,8 @@ impl From<NoMemory> for LoadFault {
 /// Loads the replica that a file holds, which may have `most` operations, and finds where the file's meaning ends.
 /// Operations that are refused change nothing and are no fault.
 ///
-/// The size is not asked for, nor, where it succeeds, a byte behind the gate that ends the meaning. Any gate may be that
-/// one until it is read, so what stands behind a gate is asked for only once the gate was seen open: it is whole then,
+/// The size is not asked for, nor, where it succeeds, a byte after the gate that ends the meaning. Any gate may be that
+/// one until it is read, so what stands after a gate is asked for only once the gate was seen open: it is whole then,
 /// though another program may be saving.
 pub fn load<H: Disk>(alloc: Global, disk: &mut H, most: u32) -> Result<(Replica, End), LoadFault>
     requires some { 0 < most }

@@ -19,7 +19,7 @@ use std::alloc::Global;
 #[derive(Drop)]
 pub(crate) struct Loading {
     pub(crate) replica: Replica,
-    /// Whether all operations found their place so far. Those behind one too many are not taken in.
+    /// Whether all operations found their place so far. Those after one too many are not taken in.
     pub(crate) finds_place: bool,
 }
 

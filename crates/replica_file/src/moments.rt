@@ -1,4 +1,4 @@
-//! The moments of a file.
+//! The moments of a file: how many operations the replica had accepted after each batch.
 ghost use Rattle.std.specs.Prelude.{◌≡◌, ◌<◌, ◌++◌, length, vec_len, vec_capacity, OnOk};
 ghost use Rattle.origin_model.specs.edits.State.{IsSound};
 ghost use Rattle.replica_file.specs.Moments.{new_moment};

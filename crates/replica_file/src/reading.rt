@@ -66,7 +66,7 @@ fn zeros(alloc: Global, size: usize) -> Result<Vec<u8>, NoMemory>
 }
 
 #[tactic(auto, using(crate::proofs::ReachLemmas::reaches_none))]
-/// Fills the buffer with the bytes from an offset on, as far as there are any, and answers how many there were.
+/// Fills the buffer with the bytes from an offset on, as far as there are any, and returns how many there were.
 pub(crate) fn read_from<H: Disk>(disk: &mut H, at: u64, buf: &mut [u8]) -> Result<usize, Failed>
     requires { at + length buf.old < 2 ^ 64 }
     ensures bound { IfOk result (λ n. n ≤ length buf.new) }

@@ -16,7 +16,7 @@ use outer_ports::Disk;
 use std::alloc::Global;
 
 #[tactic(auto, using(crate::proofs::ReachLemmas::reaches_none, crate::proofs::ReachLemmas::reaches_then))]
-/// Takes the slots in from the first gate on, notes their moments, and answers where the file's meaning ends.
+/// Takes the slots in from the first gate on, notes their moments, and returns where the file's meaning ends.
 pub(crate) fn take_slots<H: Disk>(
     alloc: Global,
     disk: &mut H,

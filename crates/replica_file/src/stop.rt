@@ -5,7 +5,7 @@ use fugue_ids::{Failed, NoMemory};
 /// Why the slots of a file are not taken in any further.
 #[derive(Clone, Copy)]
 pub(crate) enum Stop {
-    /// The slot has no batch, or no byte stands behind it.
+    /// The slot has no batch, or no byte stands after it.
     Bad,
     Disk,
     NoMemory,

@@ -1,4 +1,4 @@
--- A gap before a cell is one behind the cell before it.
+-- A gap before a cell is one after the cell before it.
 use Rattle.std.proofs.Common.{◌≡◌, ◌≢◌, ◌⊎◌, suc, true, List, [], ◌∷◌, ◌++◌, ap, append_assoc, arith, inl, inr, length, length-append, refl, subst, sym, ◌∙◌}
 use Rattle.std.specs.Prelude.{None, Some, is_some, slice_get}
 use Rattle.std.specs.List.{AllPairs, Contains}
@@ -45,7 +45,7 @@ get-at [] d back = refl
 get-at (c ∷ front) d back = get-at front d back
 
 -- what stands directly before a held cell
-pub record IsBehind (cs : List Cell) (x y : Identifier) : Type 0 where
+pub record IsAfter (cs : List Cell) (x y : Identifier) : Type 0 where
   pub held : Contains (cell_ids cs) y
   pub index : index_of (cell_ids cs) x ≡ suc (index_of (cell_ids cs) y)
   pub cell : cell_before cs (index_of (cell_ids cs) x) ≡ cell_of cs y
@@ -63,7 +63,7 @@ module _ (cs : List Cell) (d : AllPairs (λ x y. x ≢ y) (cell_ids cs)) (x : Id
       let e = subst (λ zs. AllPairs (λ a b. a ≢ b) (cell_ids zs)) p.is d in
       (λ i. index_of (cell_ids (p.is i)) (sym p.named i)) ∙ index-at p.cell.id p.front p.cell p.back (others-front p.front p.cell p.back e) refl
 
-  pub is-behind : (y : Identifier) → Some y ≡ last_id (front_of (Some x) (keyed_cells cs)) → IsBehind cs x y
+  pub is-behind : (y : Identifier) → Some y ≡ last_id (front_of (Some x) (keyed_cells cs)) → IsAfter cs x y
   is-behind y e =
       let p = around cs x c in
       elim (last-member p.front) [

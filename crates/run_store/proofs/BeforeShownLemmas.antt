@@ -19,9 +19,9 @@ use Rattle.run_store.specs.declared.run.Run.{Run}
 use Rattle.run_store.proofs.CellLemmas.{Others, index-at}
 use Rattle.run_store.proofs.HeadLemmas.{behind-id, length-typed}
 use Rattle.run_store.proofs.PlaceLemmas.{placed-at, stands-run}
-use Rattle.run_store.proofs.RunsLemmas.{cell_there, cells_before, cells_behind, kept-run, length-letters}
+use Rattle.run_store.proofs.RunsLemmas.{cell_there, cells_before, cells_after, kept-run, length-letters}
 use Rattle.run_store.proofs.VisibleLemmas.{hidden-typed, visible-append, visible-typed, visible-weight}
-use Rattle.fugue_ids.proofs.RunLemmas.{none_behind}
+use Rattle.fugue_ids.proofs.RunLemmas.{none_after}
 
 -- before a cell that stands at the end of a front stands the front
 before_is : (x : Identifier) (front : List Cell) (c : Cell) (back : List Cell) → Others x front → c.id ≡ x → shown_before (front ++ c ∷ back) x ≡ length (cells_shown front)
@@ -59,7 +59,7 @@ module _ (r : RunsView) (s : AreRuns r) (x : Identifier) (run : Run) (o : ℕ) (
         | inr f ↦ ap length (visible-typed (first_of run) (take o ls) f) ∙ length-typed (first_of run) (take o ls) ∙ long ∙ ap (λ (b : Bool). if b then 0 else o) (sym f)
       ] in
       ap (λ (cs : List Cell). shown_before cs x) p.cells_is
-      ∙ before_is x front (cell_there L run o) (cells_behind L run (suc o) (drop (suc i) r.rope)) others (sym spot.is)
+      ∙ before_is x front (cell_there L run o) (cells_after L run (suc o) (drop (suc i) r.rope)) others (sym spot.is)
       ∙ ap length (visible-append (all_cells L (take i r.rope)) (typed_cells (first_of run) (take o ls)))
       ∙ length-append (cells_shown (all_cells L (take i r.rope))) (cells_shown (typed_cells (first_of run) (take o ls)))
       ∙ (λ j. first j + own j)
@@ -71,7 +71,7 @@ weight-few r s run i stands held =
     let spot : IsCellSpot r.rope run.id run 0 = record {
       held = held;
       inside = (kept-run r s run.id run held).some;
-      is = sym (behind-id 0 (first_of run) ∙ none_behind run.id);
+      is = sym (behind-id 0 (first_of run) ∙ none_after run.id);
     } in
     let front = take (index_of (cell_ids (cells_in r)) run.id) (cells_in r) in
     omega (

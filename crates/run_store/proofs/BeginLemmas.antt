@@ -4,7 +4,7 @@ use Rattle.std.specs.Prelude.{Some, slice_index_or, slice_set}
 use Rattle.std.specs.List.{All}
 use Rattle.std.proofs.lemmas.List.Elements.{All-append, All-cons}
 use Rattle.std.proofs.Math.Seq.{take-append_seam}
-use Rattle.fugue_ids.proofs.ListLemmas.{all_before, all_behind}
+use Rattle.fugue_ids.proofs.ListLemmas.{all_before, all_after}
 use Rattle.node_rope.specs.Beside.{placed_after, placed_before}
 use Rattle.node_rope.specs.Items.{value_under}
 use Rattle.run_store.specs.Beginning.{CanBegin, begun_run, placed_at}
@@ -84,7 +84,7 @@ module _ (r : RunsView) (s : AreRuns r) (h : Head) (text : List ℕ) (new : MayC
     before = all_before P front back (subst (All P) is s.each)
 
     behind : All P back
-    behind = all_behind P front back (subst (All P) is s.each)
+    behind = all_after P front back (subst (All P) is s.each)
 
     between-cells : all_cells new_letters between ≡ all_cells r.letters front ++ (typed_cells h text ++ all_cells r.letters back)
     between-cells =

@@ -68,7 +68,7 @@ index-at x [] c back p e = index_of-here c.id (cell_ids back) x (sym e)
 index-at x (a ∷ front) c back p e =
     index_of-there a.id (cell_ids (front ++ c ∷ back)) x (λ s. true≢false (sym (eq-id_eq a.id x (sym s)) ∙ p.0)) ∙ ap suc (index-at x front c back p.1 e)
 
--- what stands behind it, and before it
+-- what stands after it, and before it
 pub rest-at : (x : Identifier) (front : List Cell) (c : Cell) (back : List Cell) → Others x front → c.id ≡ x → rest_of (Some x) (keyed_cells (front ++ c ∷ back)) ≡ keyed_cells back
 rest-at x [] c back p e = ap (λ b. if b then keyed_cells back else rest_of (Some x) (keyed_cells back)) (eq-id_eq c.id x e)
 rest-at x (a ∷ front) c back p e =
@@ -85,7 +85,7 @@ front-at x (a ∷ front) c back p e =
     ap (λ b. if b then [] else record { id = a.id; key = a.key } ∷ front_of (Some x) (keyed_cells (front ++ c ∷ back))) p.0
     ∙ ap (λ es. record { id = a.id; key = a.key } ∷ es) (front-at x front c back p.1 e)
 
--- what follows an origin is the first behind it
+-- what follows an origin is the first after it
 pub follows : (cs : List Cell) (o : Option Identifier) → first_id (rest_of o (keyed_cells cs)) ≡ following (cell_ids cs) o
 follows [] None = refl
 follows (c ∷ cs) None = refl
@@ -127,7 +127,7 @@ pub hiding-at : (x : Identifier) (front : List Cell) (c : Cell) (back : List Cel
 hiding-at x [] c back p q e = λ i. hiding-own x c e i ∷ hiding-none x back q i
 hiding-at x (a ∷ front) c back p q e = λ i. (if p.0 i then record a { hidden = true } else a) ∷ hiding-at x front c back p.1 q e i
 
--- others directly behind a part
+-- others directly after a part
 pub inserted-at : (front new back : List Cell) → inserted_at (length front) new (front ++ back) ≡ front ++ (new ++ back)
 inserted-at [] new back = refl
 inserted-at (a ∷ front) new back = ap (λ cs. a ∷ cs) (inserted-at front new back)

@@ -3,12 +3,12 @@ use Rattle.std.proofs.Common.{◌≡◌, ℕ, suc, ◌+◌, ◌<◌, Bool, true,
 use Rattle.std.specs.Prelude.{Some, if◌then◌else◌}
 use Rattle.std.proofs.lemmas.Bool.{and_parts, cases_lt, not-true}
 use Rattle.fugue_ids.proofs.IdentifierLemmas.{id_eq-true, origin_eq-refl, origin_eq-true}
-use Rattle.fugue_ids.specs.Runs.{id_behind, next_id}
+use Rattle.fugue_ids.specs.Runs.{id_after, next_id}
 use Rattle.node_rope.specs.Items.{value_under}
 use Rattle.std.specs.List.{Contains}
 use Rattle.run_store.specs.Cells.{cell_of_origin, cell_ids}
 use Rattle.run_store.specs.Growth.{MayComeTo}
-use Rattle.run_store.specs.Heads.{head_behind, cell_with_letter}
+use Rattle.run_store.specs.Heads.{head_after, cell_with_letter}
 use Rattle.run_store.specs.NewCells.{cell_depth, forest_beside, has_right, is_continued, shares_right}
 use Rattle.run_store.specs.Runs.{AreRuns, RunsView, cells_in, first_of}
 use Rattle.run_store.specs.declared.cell.Head.{Head}
@@ -21,7 +21,7 @@ use Rattle.run_store.proofs.RunsLemmas.{cell_there}
 -- what the test says
 pub record IsNext (last h : Head) : Type 0 where
   pub left : h.left ≡ Some last.id
-  pub id : h.id ≡ id_behind last.id 1
+  pub id : h.id ≡ id_after last.id 1
   pub right : h.right ≡ last.right
   pub shown : last.hidden ≡ false
 
@@ -43,20 +43,20 @@ next-by b last k h e t same = subst (λ (j : Head). IsNext j h) same (continued-
 
 module _ (r : RunsView) (s : AreRuns r) (run : Run) (o : ℕ) (v : value_under run.id r.rope ≡ Some run) (l : o < run.len) (h : Head) (count : ℕ)
     (new : MayComeTo (cells_in r) h count)
-    (n : IsNext (head_behind o (first_of run)) h) where
+    (n : IsNext (head_after o (first_of run)) h) where
   abbrev last : Head
-  last = head_behind o (first_of run)
+  last = head_after o (first_of run)
 
-  id-is : h.id ≡ id_behind run.id (suc o)
+  id-is : h.id ≡ id_after run.id (suc o)
   id-is =
       let e : (run.id.counter + o) + 1 ≡ run.id.counter + suc o = omega arith in
-      n.id ∙ ap (λ x. id_behind x 1) (behind-id o (first_of run)) ∙ (λ i. record { replica = run.id.replica; counter = e i })
+      n.id ∙ ap (λ x. id_after x 1) (behind-id o (first_of run)) ∙ (λ i. record { replica = run.id.replica; counter = e i })
 
-  -- it stands behind the last cell of the run
+  -- it stands after the last cell of the run
   pub next-last : suc o ≡ run.len
   next-last = elim (cases_lt (suc o) run.len) [
     | inl more ↦ absurd (fresh-first (cells_in r) h count new (subst (Contains (cell_ids (cells_in r))) (sym id-is)
-        (spot-held r s (id_behind run.id (suc o)) run (suc o) (record { held = v; inside = more; is = refl }))))
+        (spot-held r s (id_after run.id (suc o)) run (suc o) (record { held = v; inside = more; is = refl }))))
     | inr none ↦ omega (arith, l, none)
   ]
 
@@ -73,7 +73,7 @@ module _ (r : RunsView) (s : AreRuns r) (run : Run) (o : ℕ) (v : value_under r
   forest-is = ap (λ k. k.forest) new.head.key ∙ ap (λ b. if b then 0 else forest_beside (cells_in r) h.left h.right) shares
 
   -- and is the next one
-  pub next-is : h ≡ head_behind run.len (first_of run)
+  pub next-is : h ≡ head_after run.len (first_of run)
   next-is =
       (λ i. record {
         id = id-is i;
@@ -82,4 +82,4 @@ module _ (r : RunsView) (s : AreRuns r) (run : Run) (o : ℕ) (v : value_under r
         hidden = (new.head.shown ∙ sym n.shown ∙ behind-hidden o (first_of run)) i;
         key = record { depth = depth-is i; forest = forest-is i };
       })
-      ∙ ap (λ k. head_behind k (first_of run)) next-last
+      ∙ ap (λ k. head_after k (first_of run)) next-last

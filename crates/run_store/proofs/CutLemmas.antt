@@ -9,8 +9,8 @@ use Rattle.fugue_ids.proofs.IdentifierLemmas.{ne-id_eq}
 use Rattle.node_rope.specs.Beside.{put_under}
 use Rattle.node_rope.specs.Items.{value_under}
 use Rattle.run_store.specs.Cells.{cell_ids}
-use Rattle.run_store.specs.Heads.{head_behind, typed_cells}
-use Rattle.run_store.specs.Runs.{AreRuns, IsRun, RunsView, all_cells, cells_in, cells_of, first_of, rope_parted, parted_as, run_behind, run_to}
+use Rattle.run_store.specs.Heads.{head_after, typed_cells}
+use Rattle.run_store.specs.Runs.{AreRuns, IsRun, RunsView, all_cells, cells_in, cells_of, first_of, rope_parted, parted_as, run_after, run_to}
 use Rattle.run_store.specs.Stored.{IsRaisedBy}
 use Rattle.run_store.specs.declared.run.Run.{Run}
 use Rattle.run_store.proofs.EitherLemmas.{either, kept-raised, one-raised, where-ok}
@@ -46,9 +46,9 @@ module _ (L : List (List ℕ)) (n : ℕ) (run : Run) (at : ℕ) (this : IsRun L 
     forests = this.forests;
   }
 
-  pub back-part : IsRun L n ((head_behind at (first_of run)).id, run_behind at run)
+  pub back-part : IsRun L n ((head_after at (first_of run)).id, run_after at run)
   back-part =
-      let c : (head_behind at (first_of run)).id.counter ≡ run.id.counter + at = ap (λ (x : Identifier). x.counter) (behind-id at (first_of run)) in
+      let c : (head_after at (first_of run)).id.counter ≡ run.id.counter + at = ap (λ (x : Identifier). x.counter) (behind-id at (first_of run)) in
       let d = behind-depth at (first_of run) in
       let f = behind-forest at (first_of run) behind in
       record {
@@ -64,7 +64,7 @@ module _ (L : List (List ℕ)) (n : ℕ) (run : Run) (at : ℕ) (this : IsRun L 
 
 module _ (r : RunsView) (s : AreRuns r) (run : Run) (at : ℕ) (v : value_under run.id r.rope ≡ Some run) (behind : 0 < at) (before : at < run.len) where
   abbrev pub rest_id : Identifier
-  rest_id = (head_behind at (first_of run)).id
+  rest_id = (head_after at (first_of run)).id
 
   abbrev pub cut_rope : List Item
   cut_rope = rope_parted at run r.rope
@@ -99,32 +99,32 @@ module _ (r : RunsView) (s : AreRuns r) (run : Run) (at : ℕ) (v : value_under 
         ∙ ap (put_under run.id a) (after-at run.id run (b.id, b) front back k.0 k.1)
         ∙ put-at run.id run a front ((b.id, b) ∷ back) k.0 (other, k.1)
 
-    parted-is : rope_parted at run r.rope ≡ front ++ (run.id, run_to at run) ∷ (rest_id, run_behind at run) ∷ back
-    parted-is = pair-is (run_to at run) (run_behind at run) rest_other
+    parted-is : rope_parted at run r.rope ≡ front ++ (run.id, run_to at run) ∷ (rest_id, run_after at run) ∷ back
+    parted-is = pair-is (run_to at run) (run_after at run) rest_other
 
   front-run : IsRun r.letters r.count (run.id, run_to at run)
   front-run = front-part r.letters r.count run at this behind before
 
-  back-run : IsRun r.letters r.count (rest_id, run_behind at run)
+  back-run : IsRun r.letters r.count (rest_id, run_after at run)
   back-run = back-part r.letters r.count run at this behind before
 
   -- a run's cells are those of its parts
-  same-cells : cells_of r.letters run ≡ cells_of r.letters (run_to at run) ++ cells_of r.letters (run_behind at run)
+  same-cells : cells_of r.letters run ≡ cells_of r.letters (run_to at run) ++ cells_of r.letters (run_after at run)
   same-cells =
       let xs = slice_index_or r.letters run.stretch [] in
       let l : length (take at (drop run.start xs)) ≡ at = length-letters r.letters r.count (run.id, run_to at run) front-run in
       ap (typed_cells (first_of run)) (part-parts run.start at run.len xs (omega (arith, before)))
       ∙ typed-append (first_of run) (take at (drop run.start xs)) (take (run.len - at) (drop (run.start + at) xs))
-      ∙ ap (λ n. typed_cells (first_of run) (take at (drop run.start xs)) ++ typed_cells (head_behind n (first_of run)) (take (run.len - at) (drop (run.start + at) xs))) l
+      ∙ ap (λ n. typed_cells (first_of run) (take at (drop run.start xs)) ++ typed_cells (head_after n (first_of run)) (take (run.len - at) (drop (run.start + at) xs))) l
 
   pub cut-cells : all_cells r.letters cut_rope ≡ cells_in r
   cut-cells =
       let p = found run.id run r.rope v in
       let L = r.letters in
       let f = cells_of L (run_to at run) in
-      let g = cells_of L (run_behind at run) in
+      let g = cells_of L (run_after at run) in
       ap (all_cells L) (parted-is p.front p.back p.is)
-      ∙ cells-append L p.front ((run.id, run_to at run) ∷ (rest_id, run_behind at run) ∷ p.back)
+      ∙ cells-append L p.front ((run.id, run_to at run) ∷ (rest_id, run_after at run) ∷ p.back)
       ∙ ap (λ cs. all_cells L p.front ++ cs) (sym (append_assoc f g (all_cells L p.back)) ∙ ap (λ cs. cs ++ all_cells L p.back) (sym same-cells))
       ∙ sym (cells-append L p.front ((run.id, run) ∷ p.back))
       ∙ sym (ap (all_cells L) p.is)
@@ -133,11 +133,11 @@ module _ (r : RunsView) (s : AreRuns r) (run : Run) (at : ℕ) (v : value_under 
   cut-sound =
       let p = found run.id run r.rope v in
       let P = IsRun r.letters r.count in
-      let back_items = (rest_id, run_behind at run) ∷ [] in
+      let back_items = (rest_id, run_after at run) ∷ [] in
       record {
         each = subst (All P) (sym (parted-is p.front p.back p.is))
-            (all-between P p.front (run.id, run) ((run.id, run_to at run) ∷ (rest_id, run_behind at run) ∷ []) p.back (subst (All P) p.is s.each)
-            (All-cons P (run.id, run_to at run) back_items front-run (All-cons P (rest_id, run_behind at run) [] back-run (All-nil P))));
+            (all-between P p.front (run.id, run) ((run.id, run_to at run) ∷ (rest_id, run_after at run) ∷ []) p.back (subst (All P) p.is s.each)
+            (All-cons P (run.id, run_to at run) back_items front-run (All-cons P (rest_id, run_after at run) [] back-run (All-nil P))));
         distinct = subst (λ cs. AllPairs (λ x y. x ≢ y) (cell_ids cs)) (sym cut-cells) s.distinct;
         counted = s.counted ∙ ap length (sym cut-cells);
         few = s.few;
@@ -148,15 +148,15 @@ module _ (r : RunsView) (s : AreRuns r) (run : Run) (at : ℕ) (v : value_under 
   front-held =
       let p = found run.id run r.rope v in
       ap (value_under run.id) (parted-is p.front p.back p.is)
-      ∙ value-at run.id (run_to at run) p.front ((rest_id, run_behind at run) ∷ p.back) (keys-apart r s p.front run 0 p.back p.is some).0
+      ∙ value-at run.id (run_to at run) p.front ((rest_id, run_after at run) ∷ p.back) (keys-apart r s p.front run 0 p.back p.is some).0
 
-  pub back-held : value_under rest_id cut_rope ≡ Some (run_behind at run)
+  pub back-held : value_under rest_id cut_rope ≡ Some (run_after at run)
   back-held =
       let p = found run.id run r.rope v in
       let a = keys-apart r s p.front run at p.back p.is before in
       let new : Item = (run.id, run_to at run) in
-      ap (value_under rest_id) (parted-is p.front p.back p.is ∙ sym (append_assoc p.front (new ∷ []) ((rest_id, run_behind at run) ∷ p.back)))
-      ∙ value-at rest_id (run_behind at run) (p.front ++ new ∷ []) p.back (keys-append rest_id p.front (new ∷ []) a.0 (run_other, tt))
+      ap (value_under rest_id) (parted-is p.front p.back p.is ∙ sym (append_assoc p.front (new ∷ []) ((rest_id, run_after at run) ∷ p.back)))
+      ∙ value-at rest_id (run_after at run) (p.front ++ new ∷ []) p.back (keys-append rest_id p.front (new ∷ []) a.0 (run_other, tt))
 
   pub cut-longer : length cut_rope ≡ length r.rope + 1
   cut-longer =
@@ -166,7 +166,7 @@ module _ (r : RunsView) (s : AreRuns r) (run : Run) (at : ℕ) (v : value_under 
         ap length (parted-is p.front p.back p.is),
         ap length p.is,
         length-append p.front ((run.id, run) ∷ p.back),
-        length-append p.front ((run.id, run_to at run) ∷ (rest_id, run_behind at run) ∷ p.back),
+        length-append p.front ((run.id, run_to at run) ∷ (rest_id, run_after at run) ∷ p.back),
       )
 
   -- whatever was answered
@@ -191,24 +191,24 @@ module _ (r : RunsView) (s : AreRuns r) (run : Run) (at : ℕ) (v : value_under 
     front_marked = record (run_to at run) { hidden = m }
 
     abbrev pub rest_marked : Run
-    rest_marked = record (run_behind at run) { hidden = m }
+    rest_marked = record (run_after at run) { hidden = m }
 
-    pub front-marked : parted_as run.id front_marked (run_behind at run) r.rope ≡ put_under run.id front_marked cut_rope
+    pub front-marked : parted_as run.id front_marked (run_after at run) r.rope ≡ put_under run.id front_marked cut_rope
     front-marked =
         let p = found run.id run r.rope v in
         let k = keys-apart r s p.front run 0 p.back p.is some in
-        pair-is p.front p.back p.is front_marked (run_behind at run) rest_other
+        pair-is p.front p.back p.is front_marked (run_after at run) rest_other
         ∙ sym (ap (put_under run.id front_marked) (parted-is p.front p.back p.is)
-        ∙ put-at run.id (run_to at run) front_marked p.front ((rest_id, run_behind at run) ∷ p.back) k.0 (rest_other, k.1))
+        ∙ put-at run.id (run_to at run) front_marked p.front ((rest_id, run_after at run) ∷ p.back) k.0 (rest_other, k.1))
 
     pub rest-marked : parted_as run.id (run_to at run) rest_marked r.rope ≡ put_under rest_id rest_marked cut_rope
     rest-marked =
         let p = found run.id run r.rope v in
         let a = keys-apart r s p.front run at p.back p.is before in
         let new : Item = (run.id, run_to at run) in
-        let old_rest : Item = (rest_id, run_behind at run) in
+        let old_rest : Item = (rest_id, run_after at run) in
         let new_rest : Item = (rest_id, rest_marked) in
         pair-is p.front p.back p.is (run_to at run) rest_marked rest_other
         ∙ sym (append_assoc p.front (new ∷ []) (new_rest ∷ p.back))
         ∙ sym (ap (put_under rest_id rest_marked) (parted-is p.front p.back p.is ∙ sym (append_assoc p.front (new ∷ []) (old_rest ∷ p.back)))
-        ∙ put-at rest_id (run_behind at run) rest_marked (p.front ++ new ∷ []) p.back (keys-append rest_id p.front (new ∷ []) a.0 (run_other, tt)) a.1)
+        ∙ put-at rest_id (run_after at run) rest_marked (p.front ++ new ∷ []) p.back (keys-append rest_id p.front (new ∷ []) a.0 (run_other, tt)) a.1)

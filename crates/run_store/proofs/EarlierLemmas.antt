@@ -7,7 +7,7 @@ use Rattle.fugue_ids.specs.Listed.{index_of}
 use Rattle.fugue_ids.proofs.IdentifierLemmas.{id_eq-false, id_eq-true}
 use Rattle.node_rope.specs.Items.{value_under}
 use Rattle.run_store.specs.Cells.{cell_ids}
-use Rattle.run_store.specs.Heads.{head_behind}
+use Rattle.run_store.specs.Heads.{head_after}
 use Rattle.run_store.specs.Runs.{AreRuns, IsCellSpot, RunsView, all_cells, cells_in, cells_of, first_of, letters_of}
 use Rattle.run_store.specs.Standings.{cells_to}
 use Rattle.run_store.specs.declared.run.Run.{Run}
@@ -80,7 +80,7 @@ module _ (r : RunsView) (s : AreRuns r) where
       let m : p < run.len = omega (arith, by.inside, ap (λ (z : Run). z.len) same) in
       let q = placed r s l.front run p l.back l.place.rope_is m in
       let a = ap (index_of (cell_ids (cells_in r))) at.is ∙ index-placed r l.front run o l.back l.place at.inside in
-      let b = ap (index_of (cell_ids (cells_in r))) (by.is ∙ ap (λ z. (head_behind p (first_of z)).id) (sym same)) ∙ index-placed r l.front run p l.back q m in
+      let b = ap (index_of (cell_ids (cells_in r))) (by.is ∙ ap (λ z. (head_after p (first_of z)).id) (sym same)) ∙ index-placed r l.front run p l.back q m in
       shifted (length (all_cells r.letters l.front)) o p ∙ (λ k. nat_lt (sym a k) (sym b k))
     where
       shifted : (n c d : ℕ) → nat_lt c d ≡ nat_lt (n + c) (n + d)

@@ -10,11 +10,11 @@ use Rattle.fugue_ids.specs.Identifiers.{Identifier, id_cmp}
 use Rattle.fugue_ids.proofs.IdentifierLemmas.{cases_id, ne-id_eq}
 use Rattle.fugue_ids.proofs.ListLemmas.{contains_cases, contains_none}
 use Rattle.fugue_ids.proofs.OrderLemmas.{at_most_from_le, at_most_from_not_lt, le_from_at_most}
-use Rattle.fugue_ids.specs.Runs.{id_behind}
+use Rattle.fugue_ids.specs.Runs.{id_after}
 use Rattle.node_rope.specs.Items.{value_under}
 use Rattle.node_rope.specs.Places.{IsFloor}
 use Rattle.run_store.specs.Cells.{cell_ids}
-use Rattle.run_store.specs.Heads.{head_behind, next_head, typed_cells}
+use Rattle.run_store.specs.Heads.{head_after, next_head, typed_cells}
 use Rattle.run_store.specs.Runs.{AreRuns, IsRun, RunsView, all_cells, cells_of, first_of, letters_of}
 use Rattle.run_store.specs.declared.cell.Cell.{Cell}
 use Rattle.run_store.specs.declared.cell.Head.{Head}
@@ -24,7 +24,7 @@ use Rattle.run_store.proofs.RunsLemmas.{Item, keys-apart, length-letters}
 use Rattle.run_store.proofs.RopeLemmas.{OtherKeys, keys-append, value-at, value-none}
 
 -- the place of an identifier in a run
-contains-typed : (h : Head) (ls : List ℕ) (x : Identifier) → Contains (cell_ids (typed_cells h ls)) x → (o : ℕ) × (o < length ls) × (x ≡ (head_behind o h).id)
+contains-typed : (h : Head) (ls : List ℕ) (x : Identifier) → Contains (cell_ids (typed_cells h ls)) x → (o : ℕ) × (o < length ls) × (x ≡ (head_after o h).id)
 contains-typed h [] x c = absurd (contains_none x c)
 contains-typed h (l ∷ ls) x c = elim (contains_cases h.id (cell_ids (typed_cells (next_head h) ls)) x c) [
   | inl e ↦ (0, omega arith, sym e)
@@ -41,7 +41,7 @@ pub record IsCellOf (L : List (List ℕ)) (xs : List Item) (x : Identifier) : Ty
   pub offset : ℕ
   pub is : xs ≡ front ++ (run.id, run) ∷ back
   pub inside : offset < run.len
-  pub named : x ≡ (head_behind offset (first_of run)).id
+  pub named : x ≡ (head_after offset (first_of run)).id
 
 pub contains-run : (L : List (List ℕ)) (n : ℕ) (xs : List Item) (x : Identifier) → All (IsRun L n) xs → Contains (cell_ids (all_cells L xs)) x → IsCellOf L xs x
 contains-run L n [] x a c = absurd (contains_none x c)
@@ -58,10 +58,10 @@ contains-run L n (i ∷ xs) x a c =
     ]
 
 -- an identifier between the first one of a run and another of its cells is that of a cell
-between-cells : (h : Head) (o : ℕ) (f : Identifier) → is_gt (id_cmp f (id_behind h.id o)) ≡ false → is_lt (id_cmp f h.id) ≡ false
-    → (n : ℕ) × (n ≤ o) × (f ≡ (head_behind n h).id)
+between-cells : (h : Head) (o : ℕ) (f : Identifier) → is_gt (id_cmp f (id_after h.id o)) ≡ false → is_lt (id_cmp f h.id) ≡ false
+    → (n : ℕ) × (n ≤ o) × (f ≡ (head_after n h).id)
 between-cells h o f up low =
-    let u = at_most_from_le f (id_behind h.id o) up in
+    let u = at_most_from_le f (id_after h.id o) up in
     let l = at_most_from_not_lt f h.id low in
     let r : f.replica ≡ h.id.replica = grind (arith, u, l) in
     let c : h.id.counter ≤ f.counter = grind (arith, u, l) in
@@ -83,11 +83,11 @@ floor-is r s x f floor p = (by_floor f floor, there)
     there : value_under k r.rope ≡ Some p.run
     there = ap (value_under k) p.is ∙ value-at k p.run p.front p.back (keys-apart r s p.front p.run 0 p.back p.is some).0
 
-    at : x ≡ id_behind k p.offset
+    at : x ≡ id_after k p.offset
     at = p.named ∙ behind-id p.offset (first_of p.run)
 
     low : is_gt (id_cmp k x) ≡ false
-    low = subst (λ y. is_gt (id_cmp k y) ≡ false) (sym at) (le_from_at_most k (id_behind k p.offset) (inr (refl, omega arith)))
+    low = subst (λ y. is_gt (id_cmp k y) ≡ false) (sym at) (le_from_at_most k (id_after k p.offset) (inr (refl, omega arith)))
 
     by_floor : (g : Option Identifier) → IsFloor r.rope x g → g ≡ Some k
     by_floor None none = absurd (no_value (sym there ∙ none k low))

@@ -5,9 +5,9 @@ use Rattle.std.specs.List.{Contains}
 use Rattle.fugue_ids.specs.Keys.{HasKey}
 use Rattle.fugue_ids.specs.Listed.{index_of}
 use Rattle.run_store.specs.Cells.{cell_ids, keyed_cells}
-use Rattle.run_store.specs.Heads.{head_behind}
+use Rattle.run_store.specs.Heads.{head_after}
 use Rattle.run_store.specs.Runs.{AreRuns, RunsView, cells_in, first_of}
-use Rattle.run_store.specs.Standings.{BeginsBehind, EndsBefore, IsFoundCell, found_at, index_at}
+use Rattle.run_store.specs.Standings.{BeginsAfter, EndsBefore, IsFoundCell, found_at, index_at}
 use Rattle.run_store.specs.declared.run.Run.{Run}
 use Rattle.run_store.specs.declared.standing.Found.{Found}
 use Rattle.run_store.proofs.EarlierLemmas.{index-spot}
@@ -18,7 +18,7 @@ use Rattle.run_store.proofs.RunsLemmas.{cell_there, kept-run}
 
 module _ (r : RunsView) (s : AreRuns r) where
   -- a cell of the run at a place
-  pub found-in : (run : Run) (i o : ℕ) (f : Found) → f ≡ found_at i o (head_behind o (first_of run)) → slice_get r.rope i ≡ Some (run.id, run) → o < run.len → IsFoundCell r.rope f
+  pub found-in : (run : Run) (i o : ℕ) (f : Found) → f ≡ found_at i o (head_after o (first_of run)) → slice_get r.rope i ≡ Some (run.id, run) → o < run.len → IsFoundCell r.rope f
   found-in run i o f e at inside =
       subst (IsFoundCell r.rope) (sym e) (record { run = run; at = at; spot = record { held = value-there r s i run.id run at; inside = inside; is = refl }; key = refl })
 
@@ -39,8 +39,8 @@ module _ (r : RunsView) (s : AreRuns r) where
     found-index : index_of (cell_ids (cells_in r)) f.id ≡ index_at r f.at.place f.at.offset
     found-index = index-spot r s f.id is.run f.at.offset f.at.place is.spot is.at
 
-    -- what stands behind it, and before it
-    pub found-begin : BeginsBehind r (Some f.id) (record { place = f.at.place; offset = f.at.offset + 1 })
+    -- what stands after it, and before it
+    pub found-begin : BeginsAfter r (Some f.id) (record { place = f.at.place; offset = f.at.offset + 1 })
     found-begin = record { stands = inr ((is.run.id, is.run), is.at, omega (arith, is.spot.inside)); at = omega (arith, found-index) }
 
     pub found-end : EndsBefore r (Some f.id) f.at

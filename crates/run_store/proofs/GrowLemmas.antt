@@ -81,7 +81,7 @@ module _ (L M : List (List ℕ)) (g : AreGrown L M) (n m : ℕ) (le : n ≤ m) w
   grown-cells (x ∷ xs) a =
       λ i. typed_cells (first_of x.1) (grown-letters x (All-head (IsRun L n) x xs a) i) ++ grown-cells xs (All-tail (IsRun L n) x xs a) i
 
--- a part of a list whose end is the part's, with more behind
+-- a part of a list whose end is the part's, with more after
 pub part-longer : {X : Type 0} (start n : ℕ) (xs more : List X) → start + n ≡ length xs → take (n + length more) (drop start (xs ++ more)) ≡ take n (drop start xs) ++ more
 part-longer start n xs more e =
     let l : length (drop start xs) ≡ n = omega (arith, e, length-drop start xs) in

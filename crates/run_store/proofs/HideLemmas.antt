@@ -6,13 +6,13 @@ use Rattle.std.specs.List.{All, AllPairs}
 use Rattle.std.proofs.lemmas.List.{length-map, length-take-le, take-append-drop}
 use Rattle.std.proofs.lemmas.List.Elements.{All-cons, All-nil}
 use Rattle.fugue_ids.specs.Identifiers.{Identifier, id_eq}
-use Rattle.fugue_ids.specs.Runs.{id_behind}
-use Rattle.fugue_ids.proofs.RunLemmas.{none_behind, one_behind}
+use Rattle.fugue_ids.specs.Runs.{id_after}
+use Rattle.fugue_ids.proofs.RunLemmas.{none_after, one_after}
 use Rattle.node_rope.specs.Beside.{put_under}
 use Rattle.node_rope.specs.Items.{value_under}
 use Rattle.run_store.specs.Cells.{cell_hiding, cell_ids, cells_hiding, is_hidden_cell}
 use Rattle.run_store.specs.Changes.{HidesPart, MakesCells}
-use Rattle.run_store.specs.Heads.{head_behind, cell_with_letter, next_head, typed_cells}
+use Rattle.run_store.specs.Heads.{head_after, cell_with_letter, next_head, typed_cells}
 use Rattle.run_store.specs.Runs.{AreLetters, AreRuns, IsRun, IsCellSpot, RunsView, all_cells, cells_in, first_of, letters_of, rope_parted}
 use Rattle.run_store.specs.Stored.{IsRaisedBy}
 use Rattle.run_store.specs.declared.cell.Cell.{Cell}
@@ -24,7 +24,7 @@ use Rattle.run_store.proofs.EitherLemmas.{any-ok, either, kept-raised, on-ok, on
 use Rattle.run_store.proofs.HeadLemmas.{behind-hidden, typed-append}
 use Rattle.run_store.proofs.PartLemmas.{all-between}
 use Rattle.run_store.proofs.RopeLemmas.{found, put-at}
-use Rattle.run_store.proofs.RunsLemmas.{Item, cell_there, cells-append, cells_before, cells_behind, kept-run, keys-apart, length-letters, located}
+use Rattle.run_store.proofs.RunsLemmas.{Item, cell_there, cells-append, cells_before, cells_after, kept-run, keys-apart, length-letters, located}
 
 -- the identifiers stay
 same_id : (x : Identifier) (c : Cell) → (cell_hiding x c).id ≡ c.id
@@ -36,19 +36,19 @@ ids-hiding x (c ∷ cs) = λ i. same_id x c i ∷ ids-hiding x cs i
 
 pub hiding-ids : (n : ℕ) (x : Identifier) (cs : List Cell) → cell_ids (cells_hiding x n cs) ≡ cell_ids cs
 hiding-ids zero x cs = refl
-hiding-ids (suc n) x cs = hiding-ids n (id_behind x 1) (map (cell_hiding x) cs) ∙ ids-hiding x cs
+hiding-ids (suc n) x cs = hiding-ids n (id_after x 1) (map (cell_hiding x) cs) ∙ ids-hiding x cs
 
 all-hiding : (n : ℕ) (x : Identifier) (cs : List Cell) → length (cells_hiding x n cs) ≡ length cs
 all-hiding zero x cs = refl
-all-hiding (suc n) x cs = all-hiding n (id_behind x 1) (map (cell_hiding x) cs) ∙ length-map cs (cell_hiding x)
+all-hiding (suc n) x cs = all-hiding n (id_after x 1) (map (cell_hiding x) cs) ∙ length-map cs (cell_hiding x)
 
--- some are hidden, and then those behind them
-pub hiding-more : (m n : ℕ) (x : Identifier) (cs : List Cell) → cells_hiding (id_behind x m) n (cells_hiding x m cs) ≡ cells_hiding x (m + n) cs
-hiding-more zero n x cs = let e : n ≡ 0 + n = omega arith in λ i. cells_hiding (none_behind x i) (e i) cs
+-- some are hidden, and then those after them
+pub hiding-more : (m n : ℕ) (x : Identifier) (cs : List Cell) → cells_hiding (id_after x m) n (cells_hiding x m cs) ≡ cells_hiding x (m + n) cs
+hiding-more zero n x cs = let e : n ≡ 0 + n = omega arith in λ i. cells_hiding (none_after x i) (e i) cs
 hiding-more (suc m) n x cs =
     let e : suc (m + n) ≡ suc m + n = omega arith in
-    ap (λ y. cells_hiding y n (cells_hiding (id_behind x 1) m (map (cell_hiding x) cs))) (sym (one_behind x m))
-    ∙ hiding-more m n (id_behind x 1) (map (cell_hiding x) cs)
+    ap (λ y. cells_hiding y n (cells_hiding (id_after x 1) m (map (cell_hiding x) cs))) (sym (one_after x m))
+    ∙ hiding-more m n (id_after x 1) (map (cell_hiding x) cs)
     ∙ ap (λ k. cells_hiding x k cs) e
 
 -- a store whose cells are those of another one with some hidden
@@ -101,9 +101,9 @@ module _ (r : RunsView) (s : AreRuns r) (x : Identifier) (run : Run) (o : ℕ) (
   spot-hidden =
       let l = located r s run o spot.held spot.inside in
       let F = cells_before r.letters l.front run o in
-      let B = cells_behind r.letters run (suc o) l.back in
+      let B = cells_after r.letters run (suc o) l.back in
       (λ i. is_hidden_cell (l.place.cells_is i) (spot.is i))
-      ∙ hidden-at (head_behind o (first_of run)).id F (cell_there r.letters run o) B l.place.before l.place.behind refl
+      ∙ hidden-at (head_after o (first_of run)).id F (cell_there r.letters run o) B l.place.before l.place.behind refl
       ∙ behind-hidden o (first_of run)
 
   -- those of a hidden run that are hidden again stay
@@ -117,15 +117,15 @@ module _ (r : RunsView) (s : AreRuns r) (x : Identifier) (run : Run) (o : ℕ) (
       let before : length (take o ls) ≡ o = length-take-le o ls (omega (arith, count, inside)) in
       let part = take n (drop o ls) in
       let there : length part ≡ n = length-take-le n (drop o ls) (omega (arith, count, inside, length-drop o ls)) in
-      let head = head_behind o f in
+      let head = head_after o f in
       let A = all_cells L p.front in
       let T = typed_cells f (take o ls) in
       let P = typed_cells head part in
-      let R = typed_cells (head_behind (length part) head) (drop n (drop o ls)) in
+      let R = typed_cells (head_after (length part) head) (drop n (drop o ls)) in
       let B = all_cells L p.back in
       let parts : typed_cells f ls ≡ T ++ (P ++ R) =
       ap (typed_cells f) (sym (take-append-drop o ls)) ∙ typed-append f (take o ls) (drop o ls)
-      ∙ ap (λ k. T ++ typed_cells (head_behind k f) (drop o ls)) before
+      ∙ ap (λ k. T ++ typed_cells (head_after k f) (drop o ls)) before
       ∙ ap (λ cs. T ++ cs) (ap (typed_cells head) (sym (take-append-drop n (drop o ls))) ∙ typed-append head part (drop n (drop o ls))) in
       let is : cells_in r ≡ (A ++ T) ++ (P ++ (R ++ B)) =
       ap (all_cells L) p.is ∙ cells-append L p.front ((run.id, run) ∷ p.back) ∙ ap (λ cs. A ++ (cs ++ B)) parts
@@ -194,7 +194,7 @@ module _ (r : RunsView) (s : AreRuns r) (run : Run) (at : ℕ) (v : value_under 
   abbrev with_rope : List Item → RunsView
   with_rope xs = record { rope = xs; letters = r.letters; count = r.count }
 
-  -- what a call left that puts it so, or changes nothing for want of memory
+  -- what a call left that puts it so, or changes nothing for lack of memory
   module _ {T E : Type 0} (res : Result T E) (now rope : List Item) (e : rope ≡ put_under part.id (record part { hidden = true }) (rope_parted at run r.rope))
       (ok : OnOk res (now ≡ rope))
       (err : OnErr res (now ≡ r.rope)) where

@@ -7,11 +7,11 @@ use Rattle.std.proofs.lemmas.List.Kept.{AllPairs-cons}
 use Rattle.std.proofs.lemmas.List.Elements.{All-contains, Contains-append_cases, Contains-append_left, Contains-append_right}
 use Rattle.fugue_ids.specs.Identifiers.{Identifier}
 use Rattle.fugue_ids.specs.Listed.{index_of}
-use Rattle.fugue_ids.specs.Runs.{id_behind}
-use Rattle.fugue_ids.proofs.ListLemmas.{all_from_contains, all_pairs_across, all_pairs_append, all_pairs_before, all_pairs_behind, all_pairs_nil, contains_cases, contains_none}
+use Rattle.fugue_ids.specs.Runs.{id_after}
+use Rattle.fugue_ids.proofs.ListLemmas.{all_from_contains, all_pairs_across, all_pairs_append, all_pairs_before, all_pairs_after, all_pairs_nil, contains_cases, contains_none}
 use Rattle.run_store.specs.Cells.{cell_ids}
 use Rattle.run_store.specs.Growth.{AreFresh, MayComeTo, inserted_at}
-use Rattle.run_store.specs.Heads.{head_behind, next_head, typed_cells}
+use Rattle.run_store.specs.Heads.{head_after, next_head, typed_cells}
 use Rattle.run_store.specs.Runs.{AreLetters, AreRuns, IsRun, RunsView, all_cells, cells_in, cells_of, first_of, letters_of}
 use Rattle.run_store.specs.declared.cell.Cell.{Cell}
 use Rattle.run_store.specs.declared.cell.Head.{Head}
@@ -19,14 +19,14 @@ use Rattle.run_store.specs.declared.run.Run.{Run}
 use Rattle.run_store.proofs.CellLemmas.{index-at}
 use Rattle.run_store.proofs.GrowLemmas.{part-longer, set-stretch}
 use Rattle.run_store.proofs.HeadLemmas.{length-typed}
-use Rattle.run_store.proofs.RunsLemmas.{IsPlaced, Item, cell_there, cells_before, cells_behind, length-letters}
-use Rattle.fugue_ids.proofs.RunLemmas.{none_behind}
+use Rattle.run_store.proofs.RunsLemmas.{IsPlaced, Item, cell_there, cells_before, cells_after, length-letters}
+use Rattle.fugue_ids.proofs.RunLemmas.{none_after}
 
--- the identifiers of typed cells are those behind the first
-ids-typed : (h : Head) (text : List ℕ) (x : Identifier) → Contains (cell_ids (typed_cells h text)) x → (k : ℕ) × (k < length text) × (x ≡ id_behind h.id k)
+-- the identifiers of typed cells are those after the first
+ids-typed : (h : Head) (text : List ℕ) (x : Identifier) → Contains (cell_ids (typed_cells h text)) x → (k : ℕ) × (k < length text) × (x ≡ id_after h.id k)
 ids-typed h [] x m = absurd (contains_none x m)
 ids-typed h (c ∷ text) x m = elim (contains_cases h.id (cell_ids (typed_cells (next_head h) text)) x m) [
-  | inl e ↦ (0, omega arith, sym e ∙ sym (none_behind h.id))
+  | inl e ↦ (0, omega arith, sym e ∙ sym (none_after h.id))
   | inr k ↦
       let w = ids-typed (next_head h) text x k in
       let e : (h.id.counter + 1) + w.0 ≡ h.id.counter + suc w.0 = omega arith in
@@ -72,7 +72,7 @@ distinct-inserted cs k h text d fresh =
     let across : All (λ x. All (R x) back) front = all_pairs_across R front back parted in
     subst (AllPairs R) (sym (ids-inserted cs (typed_cells h text) k))
     (all_pairs_append R front (new ++ back) (all_pairs_before R front back parted)
-    (all_pairs_append R new back (distinct-typed h text) (all_pairs_behind R front back parted)
+    (all_pairs_append R new back (distinct-typed h text) (all_pairs_after R front back parted)
     (all_from_contains (λ x. All (R x) back) new (λ x n. all_from_contains (R x) back (λ y m same. apart y (in_back y m) x n (sym same)))))
     (all_from_contains (λ x. All (R x) (new ++ back)) front (λ x m.
     all_from_contains (R x) (new ++ back) (λ y n.
@@ -83,14 +83,14 @@ distinct-inserted cs k h text d fresh =
 
 -- the place of the cell at a place of a run
 pub index-placed : (r : RunsView) (front : List Item) (run : Run) (o : ℕ) (back : List Item) → IsPlaced r front run o back → o < run.len
-    → index_of (cell_ids (cells_in r)) (head_behind o (first_of run)).id ≡ length (all_cells r.letters front) + o
+    → index_of (cell_ids (cells_in r)) (head_after o (first_of run)).id ≡ length (all_cells r.letters front) + o
 index-placed r front run o back p l =
-    let x = (head_behind o (first_of run)).id in
+    let x = (head_after o (first_of run)).id in
     let F = cells_before r.letters front run o in
     let ls = letters_of r.letters run in
     let k : length (take o ls) ≡ o = length-take-le o ls (omega (arith, l, length-letters r.letters r.count (run.id, run) p.is_run)) in
     ap (λ cs. index_of (cell_ids cs) x) p.cells_is
-    ∙ index-at x F (cell_there r.letters run o) (cells_behind r.letters run (suc o) back) p.before refl
+    ∙ index-at x F (cell_there r.letters run o) (cells_after r.letters run (suc o) back) p.before refl
     ∙ omega (arith, k, length-append (all_cells r.letters front) (typed_cells (first_of run) (take o ls)), length-typed (first_of run) (take o ls))
 
 -- the cells with new ones are as many more
@@ -101,7 +101,7 @@ length-inserted cs new k within =
 
 -- the first identifier of new cells is fresh
 pub fresh-first : (cs : List Cell) (h : Head) (n : ℕ) → MayComeTo cs h n → Contains (cell_ids cs) h.id → ⊥
-fresh-first cs h n new m = new.fresh 0 new.some (subst (Contains (cell_ids cs)) (sym (none_behind h.id)) m)
+fresh-first cs h n new m = new.fresh 0 new.some (subst (Contains (cell_ids cs)) (sym (none_after h.id)) m)
 
 -- a new store whose cells are the old ones with new ones
 module _ (r : RunsView) (s : AreRuns r) (h : Head) (text : List ℕ) (new : MayComeTo (cells_in r) h (length text)) where
@@ -118,7 +118,7 @@ module _ (r : RunsView) (s : AreRuns r) (h : Head) (text : List ℕ) (new : MayC
         letters = letters;
       }
 
-  -- the letters with those of the cells behind those of the first stretch
+  -- the letters with those of the cells after those of the first stretch
   abbrev pub first_letters : List ℕ
   first_letters = slice_index_or r.letters 0 []
 

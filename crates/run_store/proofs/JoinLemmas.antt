@@ -1,4 +1,4 @@
--- Where new cells join: behind the last cell of a run, before its first one, or alone.
+-- Where new cells join: after the last cell of a run, before its first one, or alone.
 use Rattle.std.proofs.Common.{◌≡◌, ℕ, suc, ◌+◌, ◌-◌, ◌<◌, ◌≤◌, ◌^◌, List, [], ◌∷◌, ◌++◌, ap, append_assoc, arith, length, length-append, refl, subst, sym, ◌∙◌}
 use Rattle.std.specs.Prelude.{None, Some, cond}
 use Rattle.std.specs.List.{All}
@@ -6,12 +6,12 @@ use Rattle.std.proofs.lemmas.List.{length-map}
 use Rattle.std.proofs.lemmas.List.Elements.{All-cons, All-nil, All-tail}
 use Rattle.fugue_ids.specs.Identifiers.{Identifier, id_eq}
 use Rattle.fugue_ids.specs.Listed.{index_of}
-use Rattle.fugue_ids.proofs.ListLemmas.{all_before, all_behind}
+use Rattle.fugue_ids.proofs.ListLemmas.{all_before, all_after}
 use Rattle.node_rope.specs.Beside.{put_under}
 use Rattle.node_rope.specs.Items.{value_under}
 use Rattle.run_store.specs.Cells.{cell_ids}
-use Rattle.run_store.specs.Growth.{HasMoreLetters, MayComeTo, cells_inserted_before, cells_inserted_behind, inserted_at, last_id_of_run}
-use Rattle.run_store.specs.Heads.{head_behind, typed_cells}
+use Rattle.run_store.specs.Growth.{HasMoreLetters, MayComeTo, cells_inserted_before, cells_inserted_after, inserted_at, last_id_of_run}
+use Rattle.run_store.specs.Heads.{head_after, typed_cells}
 use Rattle.run_store.specs.Runs.{AreRuns, IsRun, RunsView, all_cells, cells_in, cells_of, first_of, letters_of}
 use Rattle.run_store.specs.declared.cell.Cell.{Cell}
 use Rattle.run_store.specs.declared.cell.Head.{Head}
@@ -52,8 +52,8 @@ module _ (r : RunsView) (s : AreRuns r) where
     pub behind-within : suc (index_of (cell_ids (cells_in r)) (last_id_of_run run)) ≤ length (cells_in r)
     behind-within = omega (arith, index-last, ap length cells-there, length-append to_run (all_cells r.letters back))
 
-    -- cells behind the run
-    pub behind-run : (new : List Cell) → to_run ++ (new ++ all_cells r.letters back) ≡ cells_inserted_behind (last_id_of_run run) new (cells_in r)
+    -- cells after the run
+    pub behind-run : (new : List Cell) → to_run ++ (new ++ all_cells r.letters back) ≡ cells_inserted_after (last_id_of_run run) new (cells_in r)
     behind-run new =
         sym (inserted-at to_run new (all_cells r.letters back))
         ∙ (λ i. inserted_at (sym index-last i) new (sym cells-there i))
@@ -80,7 +80,7 @@ module _ (r : RunsView) (s : AreRuns r) where
     count-fits = omega (arith, s.counted, new.room)
 
     -- a run with more letters
-    module _ (run : Run) (v : value_under run.id r.rope ≡ Some run) (next : h ≡ head_behind run.len (first_of run)) (M : List (List ℕ)) (longer : Run)
+    module _ (run : Run) (v : value_under run.id r.rope ≡ Some run) (next : h ≡ head_after run.len (first_of run)) (M : List (List ℕ)) (longer : Run)
         (il : HasMoreLetters r.letters M run text longer) where
       abbrev pub extended : RunsView
       extended = record { rope = put_under run.id longer r.rope; letters = M; count = r.count + length text }
@@ -113,7 +113,7 @@ module _ (r : RunsView) (s : AreRuns r) where
           let ls = letters_of r.letters run in
           (λ i. typed_cells (first_of (il.same i)) (il.letters i))
           ∙ typed-append (first_of run) ls text
-          ∙ ap (λ k. typed_cells (first_of run) ls ++ typed_cells k text) (ap (λ n. head_behind n (first_of run)) (length-letters r.letters r.count (run.id, run) this) ∙ sym next)
+          ∙ ap (λ k. typed_cells (first_of run) ls ++ typed_cells k text) (ap (λ n. head_after n (first_of run)) (length-letters r.letters r.count (run.id, run) this) ∙ sym next)
 
       module _ (front back : List Item) (is : r.rope ≡ front ++ (run.id, run) ∷ back) where
         put-is : put_under run.id longer r.rope ≡ front ++ (run.id, longer) ∷ back
@@ -124,11 +124,11 @@ module _ (r : RunsView) (s : AreRuns r) where
         runs : All (IsRun r.letters r.count) (front ++ (run.id, run) ∷ back)
         runs = subst (All (IsRun r.letters r.count)) is s.each
 
-        extended-is : cells_in extended ≡ cells_inserted_behind (last_id_of_run run) (typed_cells h text) (cells_in r)
+        extended-is : cells_in extended ≡ cells_inserted_after (last_id_of_run run) (typed_cells h text) (cells_in r)
         extended-is =
             let P = IsRun r.letters r.count in
             let f = grown-cells r.letters M il.grown r.count (r.count + length text) more front (all_before P front ((run.id, run) ∷ back) runs) in
-            let b = grown-cells r.letters M il.grown r.count (r.count + length text) more back (All-rest back (all_behind P front ((run.id, run) ∷ back) runs)) in
+            let b = grown-cells r.letters M il.grown r.count (r.count + length text) more back (All-rest back (all_after P front ((run.id, run) ∷ back) runs)) in
             ap (all_cells M) put-is
             ∙ cells-append M front ((run.id, longer) ∷ back)
             ∙ (λ i. f i ++ (longer-cells i ++ b i))
@@ -146,7 +146,7 @@ module _ (r : RunsView) (s : AreRuns r) where
             (all-between P front (run.id, run) ((run.id, longer) ∷ []) back
             (grown-runs r.letters M il.grown r.count (r.count + length text) more (front ++ (run.id, run) ∷ back) runs) (All-cons P (run.id, longer) [] longer-run (All-nil P)))
 
-      pub extended-cells : cells_in extended ≡ cells_inserted_behind (last_id_of_run run) (typed_cells h text) (cells_in r)
+      pub extended-cells : cells_in extended ≡ cells_inserted_after (last_id_of_run run) (typed_cells h text) (cells_in r)
       extended-cells = let p = found run.id run r.rope v in extended-is p.front p.back p.is
 
       pub extended-sound : AreRuns extended

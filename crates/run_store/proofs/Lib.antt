@@ -9,7 +9,7 @@ pub mod CutLemmas
 pub mod EitherLemmas
 pub mod HideLemmas
 pub mod HideRunLemmas
-pub mod BorderLemmas
+pub mod BoundaryLemmas
 pub mod GrowLemmas
 pub mod InsertLemmas
 pub mod JoinLemmas

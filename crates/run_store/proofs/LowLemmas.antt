@@ -15,7 +15,7 @@ use Rattle.fugue_ids.proofs.PartLemmas.{no_first, no_last}
 use Rattle.fugue_ids.proofs.PartedLemmas.{first_front, last_push, last_some, last_tail}
 use Rattle.node_rope.specs.Low.{first_low as first_run, if_low, last_low as last_run, or_else}
 use Rattle.run_store.specs.Cells.{keyed_cells}
-use Rattle.run_store.specs.Heads.{head_behind, cell_with_letter, next_head, rank_of, typed_cells}
+use Rattle.run_store.specs.Heads.{head_after, cell_with_letter, next_head, rank_of, typed_cells}
 use Rattle.run_store.specs.Runs.{IsRun, all_cells, cells_of, first_of, letters_of}
 use Rattle.run_store.specs.declared.cell.Cell.{Cell}
 use Rattle.run_store.specs.declared.cell.Head.{Head}
@@ -64,7 +64,7 @@ module _ (k : Key) where
   pub last-none-back : (cs ds : List Cell) → last_low k (keyed_cells ds) ≡ None → last_low k (keyed_cells (cs ++ ds)) ≡ last_low k (keyed_cells cs)
   last-none-back cs ds e = last-front cs ds (no_last (filter (is_low k) (keyed_cells ds)) e)
 
-  -- a cell that is low, and behind which none is
+  -- a cell that is low, and after which none is
   last-at : (cs : List Cell) (c : Cell) (ds : List Cell) → not (key_lt k c.key) ≡ true → filter (is_low k) (keyed_cells ds) ≡ []
       → last_low k (keyed_cells (cs ++ c ∷ ds)) ≡ Some c.id
   last-at cs c ds l e =
@@ -72,29 +72,29 @@ module _ (k : Key) where
       (low_one k (record { id = c.id; key = c.key }) (keyed_cells ds) l ∙ ap (λ t. record { id = c.id; key = c.key } ∷ t) e))
       ∙ last_push (filter (is_low k) (keyed_cells cs)) (record { id = c.id; key = c.key })
 
-  -- by its depth a cell behind the first is low, or not
+  -- by its depth a cell after the first is low, or not
   deep-low : (a : Key) → a.depth ≤ k.depth → a.forest ≡ 0 → not (key_lt k a) ≡ true
   deep-low a d f = grind (arith, nat_tests)
 
   deep-high : (a : Key) → k.depth < a.depth → not (key_lt k a) ≡ false
   deep-high a d = grind (arith, nat_tests)
 
-  -- what stands behind a place whose depth is as great is not low
+  -- what stands after a place whose depth is as great is not low
   behind-high : (h : Head) (ls : List ℕ) (o : ℕ) → (suc o < length ls → k.depth ≤ h.key.depth + o)
-      → filter (is_low k) (keyed_cells (typed_cells (head_behind (suc o) h) (drop (suc o) ls))) ≡ []
+      → filter (is_low k) (keyed_cells (typed_cells (head_after (suc o) h) (drop (suc o) ls))) ≡ []
   behind-high h ls o n =
       elim (cases_lt (suc o) (length ls)) [
-        | inl l ↦ none-low (head_behind (suc o) h) (drop (suc o) ls) (deep-high (head_behind (suc o) h).key (omega (arith, n l, behind-depth (suc o) h)))
-        | inr l ↦ ap (λ xs. filter (is_low k) (keyed_cells (typed_cells (head_behind (suc o) h) xs))) (drop_all (suc o) ls l)
+        | inl l ↦ none-low (head_after (suc o) h) (drop (suc o) ls) (deep-high (head_after (suc o) h).key (omega (arith, n l, behind-depth (suc o) h)))
+        | inr l ↦ ap (λ xs. filter (is_low k) (keyed_cells (typed_cells (head_after (suc o) h) xs))) (drop_all (suc o) ls l)
       ]
 
   -- the last low cell of a run stands at the last place whose depth is no greater
   pub last-offset : (h : Head) (ls : List ℕ) (o : ℕ) → 0 < o → o < length ls → h.key.depth + o ≤ k.depth → (suc o < length ls → k.depth ≤ h.key.depth + o)
-      → last_low k (keyed_cells (typed_cells h ls)) ≡ Some (head_behind o h).id
+      → last_low k (keyed_cells (typed_cells h ls)) ≡ Some (head_after o h).id
   last-offset h ls o p l d n =
-      let c : Cell = cell_with_letter (head_behind o h) (get_or ls o 0) in
-      let behind : List Cell = typed_cells (head_behind (suc o) h) (drop (suc o) ls) in
-      let low = deep-low (head_behind o h).key (omega (arith, d, behind-depth o h)) (behind-forest o h p) in
+      let c : Cell = cell_with_letter (head_after o h) (get_or ls o 0) in
+      let behind : List Cell = typed_cells (head_after (suc o) h) (drop (suc o) ls) in
+      let low = deep-low (head_after o h).key (omega (arith, d, behind-depth o h)) (behind-forest o h p) in
       ap (λ cs. last_low k (keyed_cells cs)) (typed-at h o ls l)
       ∙ last-at (typed_cells h (take o ls)) c behind low (behind-high h ls o n)
 
@@ -118,17 +118,17 @@ module _ (k : Key) where
 
   -- the first low cell from a place on that is not the first
   pub first-from : (h : Head) (ls : List ℕ) (o : ℕ) → 0 < o → o < length ls → h.key.depth + o ≤ k.depth
-      → first_low k (keyed_cells (typed_cells (head_behind o h) (drop o ls))) ≡ Some (head_behind o h).id
+      → first_low k (keyed_cells (typed_cells (head_after o h) (drop o ls))) ≡ Some (head_after o h).id
   first-from h ls o p l d =
-      ap (λ cs. first_low k (keyed_cells cs)) (sym (append-nil (typed_cells (head_behind o h) (drop o ls))))
-      ∙ first-typed-low (head_behind o h) (drop o ls) [] (omega (arith, l, length-drop o ls))
-      (deep-low (head_behind o h).key (omega (arith, d, behind-depth o h)) (behind-forest o h p))
+      ap (λ cs. first_low k (keyed_cells cs)) (sym (append-nil (typed_cells (head_after o h) (drop o ls))))
+      ∙ first-typed-low (head_after o h) (drop o ls) [] (omega (arith, l, length-drop o ls))
+      (deep-low (head_after o h).key (omega (arith, d, behind-depth o h)) (behind-forest o h p))
 
-  pub none-from : (h : Head) (ls : List ℕ) (o : ℕ) → k.depth < h.key.depth + o → first_low k (keyed_cells (typed_cells (head_behind o h) (drop o ls))) ≡ None
-  none-from h ls o d = ap first_id (none-low (head_behind o h) (drop o ls) (deep-high (head_behind o h).key (omega (arith, d, behind-depth o h))))
+  pub none-from : (h : Head) (ls : List ℕ) (o : ℕ) → k.depth < h.key.depth + o → first_low k (keyed_cells (typed_cells (head_after o h) (drop o ls))) ≡ None
+  none-from h ls o d = ap first_id (none-low (head_after o h) (drop o ls) (deep-high (head_after o h).key (omega (arith, d, behind-depth o h))))
 
-  pub past-end : (h : Head) (ls : List ℕ) (o : ℕ) → length ls ≤ o → first_low k (keyed_cells (typed_cells (head_behind o h) (drop o ls))) ≡ None
-  past-end h ls o l = ap (λ xs. first_low k (keyed_cells (typed_cells (head_behind o h) xs))) (drop_all o ls l)
+  pub past-end : (h : Head) (ls : List ℕ) (o : ℕ) → length ls ≤ o → first_low k (keyed_cells (typed_cells (head_after o h) (drop o ls))) ≡ None
+  past-end h ls o l = ap (λ xs. first_low k (keyed_cells (typed_cells (head_after o h) xs))) (drop_all o ls l)
 
   -- a run whose first cell is low has a last low one
   last-there : (h : Head) (ls : List ℕ) → 0 < length ls → not (key_lt k h.key) ≡ true → (z : Identifier) × (last_low k (keyed_cells (typed_cells h ls)) ≡ Some z)

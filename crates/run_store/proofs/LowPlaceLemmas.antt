@@ -1,4 +1,4 @@
--- The nearest low cell behind a cell and before it, by the run that has the cell and by the runs around that.
+-- The nearest low cell after a cell and before it, by the run that has the cell and by the runs around that.
 use Rattle.std.proofs.Common.{◌≡◌, ℕ, zero, suc, ◌<◌, ◌^◌, List, [], ◌∷◌, ap, arith, length, refl, sym, take, drop, ◌∙◌}
 use Rattle.std.specs.Prelude.{Option, None, Some, option_map, slice_get}
 use Rattle.std.specs.List.{All}
@@ -11,7 +11,7 @@ use Rattle.node_rope.specs.Items.{value_under}
 use Rattle.node_rope.specs.Low.{last_low as last_run}
 use Rattle.node_rope.specs.Places.{last_low_key}
 use Rattle.run_store.specs.Cells.{keyed_cells}
-use Rattle.run_store.specs.Heads.{head_behind, rank_of, typed_cells}
+use Rattle.run_store.specs.Heads.{head_after, rank_of, typed_cells}
 use Rattle.run_store.specs.Runs.{AreRuns, IsRun, IsCellSpot, RunsView, all_cells, cells_in, cells_of, first_of, letters_of}
 use Rattle.run_store.specs.declared.run.Run.{Run}
 use Rattle.run_store.proofs.LowLemmas.{first-front, first-past, last-back, last-none-back, last-run-low, last-runs, last_in, run_rank}
@@ -94,25 +94,25 @@ module _ (r : RunsView) (s : AreRuns r) (k : Key) (fits : k.forest < 2 ^ 32) whe
     pub front-len : length (take o letters) ≡ o
     front-len = length-take-le o letters (omega (arith, letters-len, spot.inside))
 
-    -- the first low cell behind it
-    pub first-inside : (n : ℕ) → n ≡ suc o → (y : Identifier) → Some y ≡ first_low k (keyed_cells (typed_cells (head_behind n (first_of run)) (drop n letters)))
+    -- the first low cell after it
+    pub first-inside : (n : ℕ) → n ≡ suc o → (y : Identifier) → Some y ≡ first_low k (keyed_cells (typed_cells (head_after n (first_of run)) (drop n letters)))
         → Some y ≡ first_low k (rest_of (Some x) (keyed_cells (cells_in r)))
     first-inside n i y e =
         let l = located r s run o spot.held spot.inside in
-        let f : first_low k (keyed_cells (typed_cells (head_behind (suc o) (first_of run)) (drop (suc o) letters))) ≡ Some y =
-        ap (λ j. first_low k (keyed_cells (typed_cells (head_behind j (first_of run)) (drop j letters)))) (sym i) ∙ sym e in
+        let f : first_low k (keyed_cells (typed_cells (head_after (suc o) (first_of run)) (drop (suc o) letters))) ≡ Some y =
+        ap (λ j. first_low k (keyed_cells (typed_cells (head_after j (first_of run)) (drop j letters)))) (sym i) ∙ sym e in
         sym (ap (first_low k) (rest-spot r s x run o spot l.front l.back l.place)
-        ∙ first-front k (typed_cells (head_behind (suc o) (first_of run)) (drop (suc o) letters)) (all_cells r.letters l.back) y f)
+        ∙ first-front k (typed_cells (head_after (suc o) (first_of run)) (drop (suc o) letters)) (all_cells r.letters l.back) y f)
 
-    pub first-outside : (n : ℕ) → n ≡ suc o → None ≡ first_low k (keyed_cells (typed_cells (head_behind n (first_of run)) (drop n letters))) → (i j : ℕ)
+    pub first-outside : (n : ℕ) → n ≡ suc o → None ≡ first_low k (keyed_cells (typed_cells (head_after n (first_of run)) (drop n letters))) → (i j : ℕ)
         → slice_get r.rope i ≡ Some (run.id, run) → j ≡ suc i
         → first_low k (keyed_cells (all_cells r.letters (drop j r.rope))) ≡ first_low k (rest_of (Some x) (keyed_cells (cells_in r)))
     first-outside n e none i j at d =
-        let f : first_low k (keyed_cells (typed_cells (head_behind (suc o) (first_of run)) (drop (suc o) letters))) ≡ None =
-        ap (λ j. first_low k (keyed_cells (typed_cells (head_behind j (first_of run)) (drop j letters)))) (sym e) ∙ sym none in
+        let f : first_low k (keyed_cells (typed_cells (head_after (suc o) (first_of run)) (drop (suc o) letters))) ≡ None =
+        ap (λ j. first_low k (keyed_cells (typed_cells (head_after j (first_of run)) (drop j letters)))) (sym e) ∙ sym none in
         ap (λ z. first_low k (keyed_cells (all_cells r.letters (drop z r.rope)))) d
         ∙ sym (ap (first_low k) (rest-spot r s x run o spot (take i r.rope) (drop (suc i) r.rope) (placed-at r s i run o at spot.inside))
-        ∙ first-past k (typed_cells (head_behind (suc o) (first_of run)) (drop (suc o) letters)) (all_cells r.letters (drop (suc i) r.rope)) f)
+        ∙ first-past k (typed_cells (head_after (suc o) (first_of run)) (drop (suc o) letters)) (all_cells r.letters (drop (suc i) r.rope)) f)
 
     -- the last low cell before it
     pub last-inside : (y : Identifier) → Some y ≡ last_low k (keyed_cells (typed_cells (first_of run) (take o letters)))

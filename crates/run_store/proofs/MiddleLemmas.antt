@@ -18,7 +18,7 @@ use Rattle.run_store.specs.declared.standing.Found.{Found}
 use Rattle.run_store.specs.declared.standing.Part.{Part}
 use Rattle.run_store.proofs.KeyLemmas.{keyed-ids}
 
--- what stands behind an origin, and before one, by their indexes
+-- what stands after an origin, and before one, by their indexes
 rest-drop : (es : List Keyed) (from : Option Identifier) → ids_of (rest_of from es) ≡ drop (begin_index (ids_of es) from) (ids_of es)
 rest-drop es None = refl
 rest-drop [] (Some x) = refl
@@ -49,7 +49,7 @@ contains-drop zero xs y c = c
 contains-drop (suc n) [] y c = c
 contains-drop (suc n) (x ∷ xs) y c = contains_there x xs y (contains-drop n xs y c)
 
--- an index among the members behind a place
+-- an index among the members after a place
 end-behind : (xs : List Identifier) → AllPairs (λ x y. x ≢ y) xs → (n : ℕ) → n ≤ length xs → (to : Option Identifier) → HoldsOrigin (drop n xs) to
     → end_index xs to ≡ n + end_index (drop n xs) to
 end-behind xs d n l None h = omega (arith, l, length-drop n xs)

@@ -4,7 +4,7 @@ use Rattle.std.specs.List.{All}
 use Rattle.std.proofs.Math.Seq.{take-add}
 use Rattle.std.proofs.lemmas.List.{drop-append-le, drop-drop, take-append-le}
 use Rattle.std.proofs.lemmas.List.Elements.{All-append, All-tail}
-use Rattle.fugue_ids.proofs.ListLemmas.{all_before, all_behind}
+use Rattle.fugue_ids.proofs.ListLemmas.{all_before, all_after}
 
 module _ {X : Type 0} where
   -- a part is two parts
@@ -23,4 +23,4 @@ module _ {X : Type 0} where
   pub all-between : (P : X → Type 0) (front : List X) (x : X) (new back : List X) → All P (front ++ x ∷ back) → All P new → All P (front ++ (new ++ back))
   all-between P front x new back all n =
       All-append P front (new ++ back) (all_before P front (x ∷ back) all)
-      (All-append P new back n (All-tail P x back (all_behind P front (x ∷ back) all)))
+      (All-append P new back n (All-tail P x back (all_after P front (x ∷ back) all)))

@@ -5,7 +5,7 @@ use Rattle.std.specs.List.{Contains}
 use Rattle.fugue_ids.specs.Identifiers.{Identifier}
 use Rattle.fugue_ids.specs.Keys.{Keyed, between}
 use Rattle.fugue_ids.specs.Passing.{Falls, IsTest, last_passing}
-use Rattle.fugue_ids.proofs.HalvesLemmas.{Halves, IsSearched, halves, search_before, search_begins, search_behind, search_ends}
+use Rattle.fugue_ids.proofs.HalvesLemmas.{Halves, IsSearched, halves, search_before, search_begins, search_after, search_ends}
 use Rattle.run_store.specs.Cells.{keyed_cells}
 use Rattle.run_store.specs.Runs.{AreRuns, RunsView, cells_in}
 use Rattle.run_store.specs.Standings.{IsFoundCell, IsStandingPart, low_cells}
@@ -43,18 +43,18 @@ module _ (r : RunsView) (post : Identifier → Bool → Type 0) (whole : Part) w
       shorter-before = at_low.front_shorter
 
       module _ (at : IsFoundCell r.rope f) where
-        -- it goes on behind a low cell that passes
+        -- it goes on after a low cell that passes
         pub halved-behind : post f.id true → IsHalved (record rest { from = Some f.id; begin = record { place = f.at.place; offset = f.at.offset + 1 } }) (Some f.id)
         halved-behind passes = record {
           part = record { from = at_low.low; to = at_low.end_low; begin = found-begin r s f at; end = is.part.end };
           searched = λ g t falls.
-              search_behind g es rest.most rest.from rest.to (low_cells r whole) seen (is.searched g t falls) f.id at_low (sym (t f.id true passes));
+              search_after g es rest.most rest.from rest.to (low_cells r whole) seen (is.searched g t falls) f.id at_low (sym (t f.id true passes));
         }
 
         -- and before one that fails
         pub halved-before : post f.id false → IsHalved (record rest { to = Some f.id; end = f.at }) seen
         halved-before fails = record {
-          part = record { from = is.part.from; to = at_low.low_behind; begin = is.part.begin; end = found-end r s f at };
+          part = record { from = is.part.from; to = at_low.low_after; begin = is.part.begin; end = found-end r s f at };
           searched = λ g t falls.
               search_before g es rest.most rest.from rest.to (low_cells r whole) seen (is.searched g t falls) f.id at_low (sym (t f.id false fails));
         }

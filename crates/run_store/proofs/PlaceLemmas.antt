@@ -7,18 +7,18 @@ use Rattle.std.proofs.lemmas.List.{drop_all}
 use Rattle.std.proofs.lemmas.List.Elements.{All-head}
 use Rattle.fugue_ids.specs.Identifiers.{Identifier}
 use Rattle.fugue_ids.specs.Keys.{first_id, last_id}
-use Rattle.fugue_ids.proofs.ListLemmas.{all_behind}
+use Rattle.fugue_ids.proofs.ListLemmas.{all_after}
 use Rattle.node_rope.specs.Items.{value_under}
 use Rattle.node_rope.specs.Places.{StandsAt}
 use Rattle.run_store.specs.Cells.{keyed_cells}
-use Rattle.run_store.specs.Heads.{head_behind, cell_with_letter, next_head, typed_cells}
+use Rattle.run_store.specs.Heads.{head_after, cell_with_letter, next_head, typed_cells}
 use Rattle.run_store.specs.Runs.{AreRuns, IsRun, RunsView, all_cells, first_of, letters_of}
 use Rattle.run_store.specs.declared.cell.Cell.{Cell}
 use Rattle.run_store.specs.declared.cell.Head.{Head}
 use Rattle.run_store.specs.declared.run.Run.{Run}
 use Rattle.run_store.proofs.HeadLemmas.{behind-next}
 use Rattle.run_store.proofs.RopeLemmas.{value-at}
-use Rattle.run_store.proofs.RunsLemmas.{IsPlaced, Item, cell_there, cells-around, cells_before, cells_behind, keys-apart, length-letters, placed}
+use Rattle.run_store.proofs.RunsLemmas.{IsPlaced, Item, cell_there, cells-around, cells_before, cells_after, keys-apart, length-letters, placed}
 
 module _ {X : Type 0} where
   -- a list around one of its members
@@ -59,7 +59,7 @@ module _ (r : RunsView) (s : AreRuns r) where
   run-at i k run e =
       let P = IsRun r.letters r.count in
       let runs = subst (All P) (at-split r.rope i (k, run) e) s.each in
-      All-head P (k, run) (drop (suc i) r.rope) (all_behind P (take i r.rope) ((k, run) ∷ drop (suc i) r.rope) runs)
+      All-head P (k, run) (drop (suc i) r.rope) (all_after P (take i r.rope) ((k, run) ∷ drop (suc i) r.rope) runs)
 
   pub split-at : (i : ℕ) (run : Run) → slice_get r.rope i ≡ Some (run.id, run) → r.rope ≡ take i r.rope ++ (run.id, run) ∷ drop (suc i) r.rope
   split-at i run e = at-split r.rope i (run.id, run) e
@@ -112,10 +112,10 @@ module _ (L : List (List ℕ)) (n : ℕ) where
       let r = All-head (IsRun L n) x xs a in
       first-typed (first_of x.1) (letters_of L x.1) (all_cells L xs) (omega (arith, r.some, length-letters L n x r)) ∙ ap Some (sym r.named)
 
-  -- nothing of a run stands behind its last cell
-  pub behind-all : (run : Run) (back : List Item) → IsRun L n (run.id, run) → (o : ℕ) → run.len ≤ o → cells_behind L run o back ≡ all_cells L back
+  -- nothing of a run stands after its last cell
+  pub behind-all : (run : Run) (back : List Item) → IsRun L n (run.id, run) → (o : ℕ) → run.len ≤ o → cells_after L run o back ≡ all_cells L back
   behind-all run back r o l =
-      ap (λ ls. typed_cells (head_behind o (first_of run)) ls ++ all_cells L back) (drop_all o (letters_of L run) (omega (arith, l, length-letters L n (run.id, run) r)))
+      ap (λ ls. typed_cells (head_after o (first_of run)) ls ++ all_cells L back) (drop_all o (letters_of L run) (omega (arith, l, length-letters L n (run.id, run) r)))
 
   -- the cells up to the last one of a run
   pub cells-to : (front : List Item) (run : Run) → IsRun L n (run.id, run)
@@ -135,7 +135,7 @@ module _ (L : List (List ℕ)) (n : ℕ) where
       ∙ sym (append_assoc (all_cells L front) (typed_cells (first_of run) (take o ls)) (cell_there L run o ∷ []))
     where
       more : (h : Head) (k : ℕ) (xs : List ℕ) → k < length xs
-          → typed_cells h (take (suc k) xs) ≡ typed_cells h (take k xs) ++ cell_with_letter (head_behind k h) (get_or xs k 0) ∷ []
+          → typed_cells h (take (suc k) xs) ≡ typed_cells h (take k xs) ++ cell_with_letter (head_after k h) (get_or xs k 0) ∷ []
       more h k [] m = absurd (omega (arith, m))
       more h zero (x ∷ xs) m = refl
       more h (suc k) (x ∷ xs) m =

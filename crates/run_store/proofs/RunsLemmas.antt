@@ -7,10 +7,10 @@ use Rattle.std.proofs.lemmas.Grind.{flat_map-append}
 use Rattle.std.proofs.lemmas.List.{length-take-le}
 use Rattle.std.proofs.lemmas.List.Elements.{All-head, All-tail}
 use Rattle.fugue_ids.specs.Identifiers.{Identifier, id_eq}
-use Rattle.fugue_ids.proofs.ListLemmas.{all_behind, all_before}
+use Rattle.fugue_ids.proofs.ListLemmas.{all_after, all_before}
 use Rattle.node_rope.specs.Items.{value_under}
 use Rattle.run_store.specs.Cells.{cell_ids}
-use Rattle.run_store.specs.Heads.{head_behind, cell_with_letter, typed_cells}
+use Rattle.run_store.specs.Heads.{head_after, cell_with_letter, typed_cells}
 use Rattle.run_store.specs.Runs.{AreRuns, IsRun, RunsView, all_cells, cells_in, cells_of, first_of, letters_of}
 use Rattle.run_store.specs.declared.cell.Cell.{Cell}
 use Rattle.run_store.specs.declared.run.Run.{Run}
@@ -63,18 +63,18 @@ module _ (L : List (List ℕ)) where
   abbrev pub cells_before : List Item → Run → ℕ → List Cell
   cells_before front run o = all_cells L front ++ typed_cells (first_of run) (take o (letters_of L run))
 
-  abbrev pub cells_behind : Run → ℕ → List Item → List Cell
-  cells_behind run o back = typed_cells (head_behind o (first_of run)) (drop o (letters_of L run)) ++ all_cells L back
+  abbrev pub cells_after : Run → ℕ → List Item → List Cell
+  cells_after run o back = typed_cells (head_after o (first_of run)) (drop o (letters_of L run)) ++ all_cells L back
 
   abbrev pub cell_there : Run → ℕ → Cell
-  cell_there run o = cell_with_letter (head_behind o (first_of run)) (get_or (letters_of L run) o 0)
+  cell_there run o = cell_with_letter (head_after o (first_of run)) (get_or (letters_of L run) o 0)
 
   pub cells-around : (front : List Item) (run : Run) (o : ℕ) (back : List Item) (n : ℕ) → IsRun L n (run.id, run) → o < run.len
-      → all_cells L (front ++ (run.id, run) ∷ back) ≡ cells_before front run o ++ cell_there run o ∷ cells_behind run (suc o) back
+      → all_cells L (front ++ (run.id, run) ∷ back) ≡ cells_before front run o ++ cell_there run o ∷ cells_after run (suc o) back
   cells-around front run o back n r l =
       let ls = letters_of L run in
       let t = typed_cells (first_of run) (take o ls) in
-      let u = typed_cells (head_behind (suc o) (first_of run)) (drop (suc o) ls) in
+      let u = typed_cells (head_after (suc o) (first_of run)) (drop (suc o) ls) in
       cells-append front ((run.id, run) ∷ back)
       ∙ ap (λ cs. all_cells L front ++ (cs ++ all_cells L back)) (typed-at (first_of run) o ls (omega (arith, l, length-letters n (run.id, run) r)))
       ∙ ap (λ cs. all_cells L front ++ cs) (append_assoc t (cell_there run o ∷ u) (all_cells L back))
@@ -84,37 +84,37 @@ module _ (L : List (List ℕ)) where
 pub record IsPlaced (r : RunsView) (front : List Item) (run : Run) (o : ℕ) (back : List Item) : Type 0 where
   pub rope_is : r.rope ≡ front ++ (run.id, run) ∷ back
   pub is_run : IsRun r.letters r.count (run.id, run)
-  pub cells_is : cells_in r ≡ cells_before r.letters front run o ++ cell_there r.letters run o ∷ cells_behind r.letters run (suc o) back
-  pub before : Others (head_behind o (first_of run)).id (cells_before r.letters front run o)
-  pub behind : Others (head_behind o (first_of run)).id (cells_behind r.letters run (suc o) back)
+  pub cells_is : cells_in r ≡ cells_before r.letters front run o ++ cell_there r.letters run o ∷ cells_after r.letters run (suc o) back
+  pub before : Others (head_after o (first_of run)).id (cells_before r.letters front run o)
+  pub behind : Others (head_after o (first_of run)).id (cells_after r.letters run (suc o) back)
 
 pub placed : (r : RunsView) → AreRuns r → (front : List Item) (run : Run) (o : ℕ) (back : List Item) → r.rope ≡ front ++ (run.id, run) ∷ back → o < run.len
     → IsPlaced r front run o back
 placed r s front run o back is l =
     let runs : All (IsRun r.letters r.count) (front ++ (run.id, run) ∷ back) = subst (All (IsRun r.letters r.count)) is s.each in
-    let this = All-head (IsRun r.letters r.count) (run.id, run) back (all_behind (IsRun r.letters r.count) front ((run.id, run) ∷ back) runs) in
+    let this = All-head (IsRun r.letters r.count) (run.id, run) back (all_after (IsRun r.letters r.count) front ((run.id, run) ∷ back) runs) in
     let e = ap (all_cells r.letters) is ∙ cells-around r.letters front run o back r.count this l in
     let d = subst (λ cs. AllPairs (λ x y. x ≢ y) (cell_ids cs)) e s.distinct in
     record {
       rope_is = is;
       is_run = this;
       cells_is = e;
-      before = others-front (cells_before r.letters front run o) (cell_there r.letters run o) (cells_behind r.letters run (suc o) back) d;
-      behind = others-back (cells_before r.letters front run o) (cell_there r.letters run o) (cells_behind r.letters run (suc o) back) d;
+      before = others-front (cells_before r.letters front run o) (cell_there r.letters run o) (cells_after r.letters run (suc o) back) d;
+      behind = others-back (cells_before r.letters front run o) (cell_there r.letters run o) (cells_after r.letters run (suc o) back) d;
     }
 
 -- the keys of the other runs are no cells of a run
 pub keys-apart : (r : RunsView) → AreRuns r → (front : List Item) (run : Run) (o : ℕ) (back : List Item) → r.rope ≡ front ++ (run.id, run) ∷ back → o < run.len
-    → OtherKeys (head_behind o (first_of run)).id front × OtherKeys (head_behind o (first_of run)).id back
+    → OtherKeys (head_after o (first_of run)).id front × OtherKeys (head_after o (first_of run)).id back
 keys-apart r s front run o back is l =
-    let x = (head_behind o (first_of run)).id in
+    let x = (head_after o (first_of run)).id in
     let p = placed r s front run o back is l in
     let runs : All (IsRun r.letters r.count) (front ++ (run.id, run) ∷ back) = subst (All (IsRun r.letters r.count)) is s.each in
-    let behind = All-tail (IsRun r.letters r.count) (run.id, run) back (all_behind (IsRun r.letters r.count) front ((run.id, run) ∷ back) runs) in (
+    let behind = All-tail (IsRun r.letters r.count) (run.id, run) back (all_after (IsRun r.letters r.count) front ((run.id, run) ∷ back) runs) in (
       keys-other r.letters r.count x front (all_before (IsRun r.letters r.count) front ((run.id, run) ∷ back) runs)
           (others-head r.letters x (all_cells r.letters front) (typed_cells (first_of run) (take o (letters_of r.letters run))) p.before),
       keys-other r.letters r.count x back behind
-          (others-tail r.letters x (typed_cells (head_behind (suc o) (first_of run)) (drop (suc o) (letters_of r.letters run))) (all_cells r.letters back) p.behind),
+          (others-tail r.letters x (typed_cells (head_after (suc o) (first_of run)) (drop (suc o) (letters_of r.letters run))) (all_cells r.letters back) p.behind),
     )
 
 pub record IsLocated (r : RunsView) (run : Run) (o : ℕ) : Type 0 where
@@ -130,7 +130,7 @@ pub kept-run : (r : RunsView) → AreRuns r → (k : Identifier) (run : Run) →
 kept-run r s k run v =
     let p = found k run r.rope v in
     let runs : All (IsRun r.letters r.count) (p.front ++ (k, run) ∷ p.back) = subst (All (IsRun r.letters r.count)) p.is s.each in
-    All-head (IsRun r.letters r.count) (k, run) p.back (all_behind (IsRun r.letters r.count) p.front ((k, run) ∷ p.back) runs)
+    All-head (IsRun r.letters r.count) (k, run) p.back (all_after (IsRun r.letters r.count) p.front ((k, run) ∷ p.back) runs)
 
 -- no more runs than cells
 runs-few : (L : List (List ℕ)) (n : ℕ) (xs : List Item) → All (IsRun L n) xs → length xs ≤ length (all_cells L xs)

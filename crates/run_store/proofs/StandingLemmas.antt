@@ -4,7 +4,7 @@ use Rattle.std.specs.Prelude.{Some, slice_get}
 use Rattle.std.proofs.lemmas.List.{length-map, take_all}
 use Rattle.fugue_ids.specs.Identifiers.{Identifier}
 use Rattle.run_store.specs.Cells.{cell_ids}
-use Rattle.run_store.specs.Heads.{head_behind}
+use Rattle.run_store.specs.Heads.{head_after}
 use Rattle.run_store.specs.Runs.{AreRuns, RunsView, all_cells, cells_in, cells_of, first_of, letters_of}
 use Rattle.run_store.specs.Standings.{IsBegin, IsEndStanding, IsInRun, IsMemberWithin, cells_to, index_at}
 use Rattle.run_store.specs.declared.cell.Cell.{Cell}
@@ -27,7 +27,7 @@ module _ (r : RunsView) (s : AreRuns r) where
       )
 
   -- a cell of a run, between two offsets
-  pub in-run : (run : Run) (i o from to : ℕ) (x : Identifier) → x ≡ (head_behind o (first_of run)).id → slice_get r.rope i ≡ Some (run.id, run) → from ≤ o → o < to → o < run.len
+  pub in-run : (run : Run) (i o from to : ℕ) (x : Identifier) → x ≡ (head_after o (first_of run)).id → slice_get r.rope i ≡ Some (run.id, run) → from ≤ o → o < to → o < run.len
       → IsInRun r.rope i from to x
   in-run run i o from to x e at low high inside = record {
     run = run;
@@ -57,7 +57,7 @@ module _ (r : RunsView) (s : AreRuns r) where
     pub end-within : j ≤ length r.rope
     end-within = elim e [ inl z ↦ omega (arith, z.0) | inr x ↦ omega (arith, at-within r.rope j x.0 x.1) ]
 
-    -- a run behind the one with the beginning
+    -- a run after the one with the beginning
     begin-before : (k : ℕ) → i < k → k ≤ length r.rope → low ≤ cells_to r.letters r.rope k
     begin-before k l m =
         let x = item-at i (omega (arith, l, m)) in

@@ -9,11 +9,11 @@ use Rattle.std.proofs.lemmas.List.Elements.{All-head, All-tail, filter-append}
 use Rattle.std.proofs.lemmas.Option.{slice_get_past}
 use Rattle.fugue_ids.specs.Identifiers.{Identifier}
 use Rattle.fugue_ids.specs.declared.limits.TheConstants.{MOST_OPERATIONS}
-use Rattle.fugue_ids.proofs.ListLemmas.{all_before, all_behind, slice_get-behind}
+use Rattle.fugue_ids.proofs.ListLemmas.{all_before, all_after, slice_get-behind}
 use Rattle.node_rope.specs.Items.{value_under}
 use Rattle.node_rope.specs.Places.{IsUnit, weight_sum}
 use Rattle.run_store.specs.Cells.{cell_ids, cells_shown}
-use Rattle.run_store.specs.Heads.{head_behind, cell_with_letter, next_head, typed_cells}
+use Rattle.run_store.specs.Heads.{head_after, cell_with_letter, next_head, typed_cells}
 use Rattle.run_store.specs.Runs.{AreRuns, IsRun, RunsView, all_cells, cells_in, cells_of, first_of, letters_of, visible_weight}
 use Rattle.run_store.specs.Shown.{IsInHand}
 use Rattle.run_store.specs.declared.cell.Cell.{Cell}
@@ -38,7 +38,7 @@ hidden-typed h [] e = refl
 hidden-typed h (l ∷ ls) e =
     ap (λ b. if not b then cell_with_letter h l ∷ cells_shown (typed_cells (next_head h) ls) else cells_shown (typed_cells (next_head h) ls)) e ∙ hidden-typed (next_head h) ls e
 
-pub get-typed : (h : Head) (ls : List ℕ) (o : ℕ) (cs : List Cell) → o < length ls → slice_get (cell_ids (typed_cells h ls ++ cs)) o ≡ Some (head_behind o h).id
+pub get-typed : (h : Head) (ls : List ℕ) (o : ℕ) (cs : List Cell) → o < length ls → slice_get (cell_ids (typed_cells h ls ++ cs)) o ≡ Some (head_after o h).id
 get-typed h [] o cs l = absurd (omega (arith, l))
 get-typed h (x ∷ ls) zero cs l = refl
 get-typed h (x ∷ ls) (suc o) cs l = get-typed (next_head h) ls o cs (omega (arith, l)) ∙ ap (λ (k : Head). Some k.id) (behind-next o h)
@@ -83,12 +83,12 @@ module _ (r : RunsView) (s : AreRuns r) where
       (omega (arith, l, visible-all, length-map (cells_shown (cells_in r)) (λ (z : Cell). z.id)))
 
   pub unit-cell : (w : ℕ) (k : Identifier) (u : ℕ) (p : IsUnit visible_weight r.rope w k u)
-      → (u < p.value.len) × (slice_get (cell_ids (cells_shown (cells_in r))) w ≡ Some (head_behind u (first_of p.value)).id)
+      → (u < p.value.len) × (slice_get (cell_ids (cells_shown (cells_in r))) w ≡ Some (head_after u (first_of p.value)).id)
   unit-cell w k u p =
       let P = IsRun r.letters r.count in
       let L = r.letters in
       let runs = subst (All P) p.split s.each in
-      let this = All-head P (k, p.value) p.back (all_behind P p.front ((k, p.value) ∷ p.back) runs) in
+      let this = All-head P (k, p.value) p.back (all_after P p.front ((k, p.value) ∷ p.back) runs) in
       let shown = is-shown p.value.hidden p.value.len u p.inside in
       let V = cells_shown (all_cells L p.front) in
       let B = cells_shown (all_cells L p.back) in
@@ -111,19 +111,19 @@ module _ (r : RunsView) (s : AreRuns r) where
   pub unit-held : (w : ℕ) (k : Identifier) (u : ℕ) (p : IsUnit visible_weight r.rope w k u) → value_under k r.rope ≡ Some p.value
   unit-held w k u p =
       let P = IsRun r.letters r.count in
-      let this = All-head P (k, p.value) p.back (all_behind P p.front ((k, p.value) ∷ p.back) (subst (All P) p.split s.each)) in
+      let this = All-head P (k, p.value) p.back (all_after P p.front ((k, p.value) ∷ p.back) (subst (All P) p.split s.each)) in
       let is : r.rope ≡ p.front ++ (p.value.id, p.value) ∷ p.back = p.split ∙ (λ i. p.front ++ (this.named i, p.value) ∷ p.back) in
       ap (λ i. value_under i r.rope) this.named ∙ ap (value_under p.value.id) is
       ∙ value-at p.value.id p.value p.front p.back (keys-apart r s p.front p.value 0 p.back is this.some).0
 
   pub unit-run : (w : ℕ) (k : Identifier) (u : ℕ) → IsUnit visible_weight r.rope w k u → (run : Run) → value_under k r.rope ≡ Some run
-      → (u < run.len) × (slice_get (cell_ids (cells_shown (cells_in r))) w ≡ Some (head_behind u (first_of run)).id)
+      → (u < run.len) × (slice_get (cell_ids (cells_shown (cells_in r))) w ≡ Some (head_after u (first_of run)).id)
   unit-run w k u p run v =
       let e : Some p.value ≡ Some run = sym (unit-held w k u p) ∙ v in
       let same : p.value ≡ run = cc in
-      subst (λ (z : Run). (u < z.len) × (slice_get (cell_ids (cells_shown (cells_in r))) w ≡ Some (head_behind u (first_of z)).id)) same (unit-cell w k u p)
+      subst (λ (z : Run). (u < z.len) × (slice_get (cell_ids (cells_shown (cells_in r))) w ≡ Some (head_after u (first_of z)).id)) same (unit-cell w k u p)
 
-  -- the run with the cells behind it
+  -- the run with the cells after it
   pub unit-hand : (w : ℕ) (k : Identifier) (u : ℕ) → IsUnit visible_weight r.rope w k u → (run : Run) → value_under k r.rope ≡ Some run
       → IsInHand (cell_ids (cells_shown (cells_in r))) w run u
   unit-hand w k u p run v =
@@ -165,15 +165,15 @@ hand-next shown passed run o h l = record {
   cells = λ k m.
       let p : passed + suc k ≡ (passed + 1) + k = omega arith in
       let q : o + suc k ≡ suc o + k = omega arith in
-      ap (slice_get shown) (sym p) ∙ h.cells (suc k) (omega (arith, m)) ∙ ap (λ j. Some (head_behind j (first_of run)).id) q;
+      ap (slice_get shown) (sym p) ∙ h.cells (suc k) (omega (arith, m)) ∙ ap (λ j. Some (head_after j (first_of run)).id) q;
 }
 
 -- the first cell in hand
-pub hand-first : (shown : List Identifier) (passed : ℕ) (run : Run) (o : ℕ) → IsInHand shown passed run o → slice_get shown passed ≡ Some (head_behind o (first_of run)).id
+pub hand-first : (shown : List Identifier) (passed : ℕ) (run : Run) (o : ℕ) → IsInHand shown passed run o → slice_get shown passed ≡ Some (head_after o (first_of run)).id
 hand-first shown passed run o h =
     let p : passed + 0 ≡ passed = omega arith in
     let q : o + 0 ≡ o = omega arith in
-    ap (slice_get shown) (sym p) ∙ h.cells 0 (omega (arith, h.inside)) ∙ ap (λ j. Some (head_behind j (first_of run)).id) q
+    ap (slice_get shown) (sym p) ∙ h.cells 0 (omega (arith, h.inside)) ∙ ap (λ j. Some (head_after j (first_of run)).id) q
 
 -- and what is in hand then
 pub hand-behind : (shown : List Identifier) (passed : ℕ) (run : Run) (o : ℕ) → IsInHand shown passed run o → (next : Option Spot)

@@ -8,16 +8,16 @@ use Rattle.std.proofs.lemmas.Option.{slice_get_past}
 use Rattle.std.proofs.lemmas.List.Elements.{All-tail}
 use Rattle.fugue_ids.specs.Identifiers.{Identifier}
 use Rattle.fugue_ids.specs.Keys.{first_id, front_of, last_id, rest_of}
-use Rattle.fugue_ids.proofs.ListLemmas.{all_behind}
+use Rattle.fugue_ids.proofs.ListLemmas.{all_after}
 use Rattle.node_rope.specs.Items.{value_under}
 use Rattle.node_rope.specs.Places.{StandsAt}
 use Rattle.run_store.specs.Cells.{keyed_cells}
-use Rattle.run_store.specs.Heads.{head_behind}
+use Rattle.run_store.specs.Heads.{head_after}
 use Rattle.run_store.specs.Runs.{AreRuns, IsRun, IsCellSpot, RunsView, all_cells, cells_in, first_of, letters_of}
 use Rattle.run_store.specs.declared.run.Run.{Run}
 use Rattle.run_store.proofs.CellLemmas.{front-at, rest-at}
 use Rattle.run_store.proofs.PlaceLemmas.{before-more, behind-all, cells-to, drop-first, first-cells, first-typed, keys-get, last-keyed, placed-at, run-at, stands-run}
-use Rattle.run_store.proofs.RunsLemmas.{IsPlaced, Item, cell_there, cells_before, cells_behind, length-letters, located}
+use Rattle.run_store.proofs.RunsLemmas.{IsPlaced, Item, cell_there, cells_before, cells_after, length-letters, located}
 
 module _ (r : RunsView) (s : AreRuns r) where
   abbrev P : Item → Type 0
@@ -25,7 +25,7 @@ module _ (r : RunsView) (s : AreRuns r) where
 
   -- the last cell of the runs up to one
   pub last-of : (i : ℕ) (run : Run) → slice_get r.rope i ≡ Some (run.id, run)
-      → last_id (keyed_cells (all_cells r.letters (take (suc i) r.rope))) ≡ Some (head_behind (run.len - 1) (first_of run)).id
+      → last_id (keyed_cells (all_cells r.letters (take (suc i) r.rope))) ≡ Some (head_after (run.len - 1) (first_of run)).id
   last-of i run e =
       let p = run-at r s i run.id run e in
       let t : take (suc i) r.rope ≡ take i r.rope ++ (run.id, run) ∷ [] = take-more r.rope i (run.id, run) e in
@@ -39,24 +39,24 @@ module _ (r : RunsView) (s : AreRuns r) where
       take-more (y ∷ xs) (suc k) x f = ap (λ zs. y ∷ zs) (take-more xs k x f)
 
   module _ (x : Identifier) (run : Run) (o : ℕ) (spot : IsCellSpot r.rope x run o) where
-    -- what stands before the cell at a spot, and behind it
+    -- what stands before the cell at a spot, and after it
     pub front-spot : (front back : List Item) → IsPlaced r front run o back → front_of (Some x) (keyed_cells (cells_in r)) ≡ keyed_cells (cells_before r.letters front run o)
     front-spot front back p =
         (λ i. front_of (Some (spot.is i)) (keyed_cells (p.cells_is i)))
-        ∙ front-at (head_behind o (first_of run)).id (cells_before r.letters front run o) (cell_there r.letters run o) (cells_behind r.letters run (suc o) back) p.before refl
+        ∙ front-at (head_after o (first_of run)).id (cells_before r.letters front run o) (cell_there r.letters run o) (cells_after r.letters run (suc o) back) p.before refl
 
-    pub rest-spot : (front back : List Item) → IsPlaced r front run o back → rest_of (Some x) (keyed_cells (cells_in r)) ≡ keyed_cells (cells_behind r.letters run (suc o) back)
+    pub rest-spot : (front back : List Item) → IsPlaced r front run o back → rest_of (Some x) (keyed_cells (cells_in r)) ≡ keyed_cells (cells_after r.letters run (suc o) back)
     rest-spot front back p =
         (λ i. rest_of (Some (spot.is i)) (keyed_cells (p.cells_is i)))
-        ∙ rest-at (head_behind o (first_of run)).id (cells_before r.letters front run o) (cell_there r.letters run o) (cells_behind r.letters run (suc o) back) p.before refl
+        ∙ rest-at (head_after o (first_of run)).id (cells_before r.letters front run o) (cell_there r.letters run o) (cells_after r.letters run (suc o) back) p.before refl
 
     -- the next cell of the run
-    pub behind-inside : suc o < run.len → first_id (rest_of (Some x) (keyed_cells (cells_in r))) ≡ Some (head_behind (suc o) (first_of run)).id
+    pub behind-inside : suc o < run.len → first_id (rest_of (Some x) (keyed_cells (cells_in r))) ≡ Some (head_after (suc o) (first_of run)).id
     behind-inside l =
         let p = located r s run o spot.held spot.inside in
         let ls = letters_of r.letters run in
         ap first_id (rest-spot p.front p.back p.place)
-        ∙ first-typed (head_behind (suc o) (first_of run)) (drop (suc o) ls) (all_cells r.letters p.back)
+        ∙ first-typed (head_after (suc o) (first_of run)) (drop (suc o) ls) (all_cells r.letters p.back)
         (omega (arith, l, length-letters r.letters r.count (run.id, run) p.place.is_run, length-drop (suc o) ls))
 
     -- the first cell of the next run
@@ -68,11 +68,11 @@ module _ (r : RunsView) (s : AreRuns r) where
         let runs = subst (All P) p.rope_is s.each in
         ap first_id (rest-spot (take i r.rope) back p)
         ∙ ap (λ cs. first_id (keyed_cells cs)) (behind-all r.letters r.count run back p.is_run (suc o) l)
-        ∙ first-cells r.letters r.count back (All-tail P (run.id, run) back (all_behind P (take i r.rope) ((run.id, run) ∷ back) runs))
+        ∙ first-cells r.letters r.count back (All-tail P (run.id, run) back (all_after P (take i r.rope) ((run.id, run) ∷ back) runs))
         ∙ keys-get back 0 ∙ ap (option_map (λ (z : Item). z.0)) (drop-first r.rope (suc i)) ∙ sym (keys-get r.rope (suc i))
 
     -- the cell before it in the run
-    pub before-inside : 0 < o → last_id (front_of (Some x) (keyed_cells (cells_in r))) ≡ Some (head_behind (o - 1) (first_of run)).id
+    pub before-inside : 0 < o → last_id (front_of (Some x) (keyed_cells (cells_in r))) ≡ Some (head_after (o - 1) (first_of run)).id
     before-inside l =
         let p = located r s run o spot.held spot.inside in
         let e : o ≡ suc (o - 1) = omega (arith, l) in

@@ -3,7 +3,7 @@ use Rattle.std.specs.Prelude.{◌≡◌, List, [], ◌∷◌, Some, IsSome}
 use Rattle.fugue_ids.specs.Identifiers.{Identifier}
 use Rattle.node_rope.specs.Beside.{placed_after, placed_before}
 use Rattle.node_rope.specs.Items.{value_under}
-use Rattle.run_store.specs.Growth.{cells_inserted_before, cells_inserted_behind, last_id_of_run}
+use Rattle.run_store.specs.Growth.{cells_inserted_before, cells_inserted_after, last_id_of_run}
 use Rattle.run_store.specs.declared.insert.Beginning.{Beginning}
 use Rattle.run_store.specs.declared.insert.Beginning.TheVariants.{Before, Behind, First}
 use Rattle.run_store.specs.declared.cell.Cell.{Cell}
@@ -25,4 +25,4 @@ placed_at (Behind run) new rope = placed_after run.id new rope
 abbrev pub begun_run : Beginning → List Cell → List Cell → List Cell
 begun_run First new cells = new
 begun_run (Before key) new cells = cells_inserted_before key new cells
-begun_run (Behind run) new cells = cells_inserted_behind (last_id_of_run run) new cells
+begun_run (Behind run) new cells = cells_inserted_after (last_id_of_run run) new cells

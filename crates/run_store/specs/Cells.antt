@@ -4,7 +4,7 @@ use Rattle.std.specs.Prelude.{length, take, true}
 use Rattle.std.specs.List.{list_any}
 use Rattle.fugue_ids.specs.Identifiers.{Identifier, id_eq}
 use Rattle.fugue_ids.specs.Keys.{Keyed}
-use Rattle.fugue_ids.specs.Runs.{id_behind}
+use Rattle.fugue_ids.specs.Runs.{id_after}
 use Rattle.fugue_ids.specs.Listed.{index_of}
 use Rattle.run_store.specs.declared.cell.Cell.{Cell}
 
@@ -53,4 +53,4 @@ cell_hiding x c = if id_eq c.id x then record c { hidden = true } else c
 -- the cells as they are once those of the first n identifiers from x on are hidden, one after another
 abbrev pub cells_hiding : Identifier → ℕ → List Cell → List Cell
 cells_hiding x zero cells = cells
-cells_hiding x (suc n) cells = cells_hiding (id_behind x 1) n (map (cell_hiding x) cells)
+cells_hiding x (suc n) cells = cells_hiding (id_after x 1) n (map (cell_hiding x) cells)

@@ -1,27 +1,27 @@
--- The cells of a run, one behind the other.
+-- The cells of a run, one after the other.
 use Rattle.std.specs.Prelude.{ℕ, zero, suc, ◌+◌, ◌*◌, List, [], ◌∷◌, Some}
 use Rattle.fugue_ids.specs.declared.key.Key.{Key}
-use Rattle.fugue_ids.specs.Runs.{id_behind}
+use Rattle.fugue_ids.specs.Runs.{id_after}
 use Rattle.run_store.specs.declared.cell.Cell.{Cell}
 use Rattle.run_store.specs.declared.cell.Head.{Head}
 
--- the cell directly behind this one in its run
+-- the cell directly after this one in its run
 abbrev pub next_head : Head → Head
 next_head h = record {
-  id = id_behind h.id 1;
+  id = id_after h.id 1;
   left = Some h.id;
   right = h.right;
   hidden = h.hidden;
   key = record { depth = suc h.key.depth; forest = 0 };
 }
 
--- the cell n behind this one in its run
-abbrev pub head_behind : ℕ → Head → Head
-head_behind zero h = h
-head_behind (suc n) h =
+-- the cell n after this one in its run
+abbrev pub head_after : ℕ → Head → Head
+head_after zero h = h
+head_after (suc n) h =
     record {
-      id = id_behind h.id (suc n);
-      left = Some (id_behind h.id n);
+      id = id_after h.id (suc n);
+      left = Some (id_after h.id n);
       right = h.right;
       hidden = h.hidden;
       key = record { depth = h.key.depth + suc n; forest = 0 };
@@ -35,7 +35,7 @@ cell_with_letter h ch = record { id = h.id; left = h.left; right = h.right; ch =
 abbrev pub run_head_of : Cell → Head
 run_head_of c = record { id = c.id; left = c.left; right = c.right; hidden = c.hidden; key = c.key }
 
--- the cells of letters of which each stands behind the one before it
+-- the cells of letters of which each stands after the one before it
 abbrev pub typed_cells : Head → List ℕ → List Cell
 typed_cells h [] = []
 typed_cells h (ch ∷ chs) = cell_with_letter h ch ∷ typed_cells (next_head h) chs

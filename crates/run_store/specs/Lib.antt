@@ -5,7 +5,7 @@ pub mod NewCells
 pub mod Origins
 pub mod Runs
 pub mod Beginning
-pub mod Borders
+pub mod Boundaries
 pub mod Stored
 pub mod Changes
 pub mod Shown

@@ -55,7 +55,7 @@ new_cell cells id left right ch =
 abbrev pub new_head : List Cell → Identifier → Option Identifier → Option Identifier → Head
 new_head cells id left right = record { id = id; left = left; right = right; hidden = false; key = new_cell_key cells left right }
 
--- a run of new cells: each but the first is the letter behind the one before it
+-- a run of new cells: each but the first is the letter after the one before it
 abbrev pub new_cells : List Cell → Identifier → Option Identifier → Option Identifier → List ℕ → List Cell
 new_cells cells id left right text = typed_cells (new_head cells id left right) text
 
@@ -64,7 +64,7 @@ abbrev pub cell_before : List Cell → ℕ → Option Cell
 cell_before cells zero = None
 cell_before cells (suc i) = slice_get cells i
 
--- a new cell directly behind this one continues its run: this one is its left origin and the one before it of the same
+-- a new cell directly after this one continues its run: this one is its left origin and the one before it of the same
 -- replica, has the same right origin and is not hidden
 abbrev pub is_continued : Option Cell → Identifier → Option Identifier → Option Identifier → Bool
 is_continued None id left right = false

@@ -6,7 +6,7 @@ use Rattle.fugue_ids.specs.declared.limits.TheConstants.{MOST_OPERATIONS}
 use Rattle.node_rope.specs.Beside.{placed_after, put_under}
 use Rattle.node_rope.specs.Items.{value_under}
 use Rattle.run_store.specs.Cells.{cell_ids}
-use Rattle.run_store.specs.Heads.{head_behind, typed_cells}
+use Rattle.run_store.specs.Heads.{head_after, typed_cells}
 use Rattle.run_store.specs.declared.cell.Cell.{Cell}
 use Rattle.run_store.specs.declared.cell.Head.{Head}
 use Rattle.run_store.specs.declared.run.Run.{Run}
@@ -66,20 +66,20 @@ pub record AreRuns (r : RunsView) : Type 0 where
 abbrev pub visible_weight : Run → ℕ
 visible_weight r = if r.hidden then 0 else min r.len MOST_OPERATIONS
 
--- the cell of x stands behind `offset` others in a run
+-- the cell of x stands after `offset` others in a run
 pub record IsCellSpot (rope : List (Identifier × Run)) (x : Identifier) (run : Run) (offset : ℕ) : Type 0 where
   pub held : value_under run.id rope ≡ Some run
   pub inside : offset < run.len
-  pub is : x ≡ (head_behind offset (first_of run)).id
+  pub is : x ≡ (head_after offset (first_of run)).id
 
 -- the cells of a run before the place n, and those from it on, as runs
 abbrev pub run_to : ℕ → Run → Run
 run_to n r = record r { len = n }
 
--- the run behind its first n letters
-abbrev pub run_behind : ℕ → Run → Run
-run_behind n r =
-    let h = head_behind n (first_of r) in
+-- the run after its first n letters
+abbrev pub run_after : ℕ → Run → Run
+run_after n r =
+    let h = head_after n (first_of r) in
     record {
       id = h.id;
       left = h.left;
@@ -97,4 +97,4 @@ parted_as key front back rope = put_under key front (placed_after key (back.id, 
 
 -- the rope with a run parted at a place
 abbrev pub rope_parted : ℕ → Run → List (Identifier × Run) → List (Identifier × Run)
-rope_parted n r rope = parted_as r.id (run_to n r) (run_behind n r) rope
+rope_parted n r rope = parted_as r.id (run_to n r) (run_after n r) rope

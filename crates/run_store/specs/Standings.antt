@@ -4,7 +4,7 @@ use Rattle.fugue_ids.specs.Identifiers.{Identifier}
 use Rattle.fugue_ids.specs.Keys.{between, low_ids, rest_of}
 use Rattle.fugue_ids.specs.Listed.{HoldsOrigin, index_of}
 use Rattle.run_store.specs.Cells.{cell_ids, keyed_cells}
-use Rattle.run_store.specs.Heads.{head_behind}
+use Rattle.run_store.specs.Heads.{head_after}
 use Rattle.run_store.specs.Runs.{IsCellSpot, RunsView, all_cells, cells_in, first_of}
 use Rattle.run_store.specs.declared.cell.Head.{Head}
 use Rattle.run_store.specs.declared.standing.Found.{Found}
@@ -12,7 +12,7 @@ use Rattle.run_store.specs.declared.standing.Part.{Part}
 use Rattle.run_store.specs.declared.standing.Standing.{Standing}
 use Rattle.run_store.specs.declared.run.Run.{Run}
 
--- the index from which on the members stand behind an origin
+-- the index from which on the members stand after an origin
 abbrev pub begin_index : List Identifier → Option Identifier → ℕ
 begin_index xs None = 0
 begin_index xs (Some x) = suc (index_of xs x)
@@ -32,11 +32,11 @@ pub record IsMemberWithin (xs : List Identifier) (low high : ℕ) (x : Identifie
 abbrev pub cells_to : List (List ℕ) → List (Identifier × Run) → ℕ → ℕ
 cells_to letters rope runs = length (all_cells letters (take runs rope))
 
--- the index of the cell at a place of the run that stands behind so many others
+-- the index of the cell at a place of the run that stands after so many others
 abbrev pub index_at : RunsView → ℕ → ℕ → ℕ
 index_at r place offset = cells_to r.letters r.rope place + offset
 
--- a standing from which on cells may stand: the beginning, one behind any number of the cells of a run
+-- a standing from which on cells may stand: the beginning, one after any number of the cells of a run
 abbrev pub IsBegin : List (Identifier × Run) → ℕ → ℕ → Type 0
 IsBegin rope place offset = ((place ≡ 0) × (offset ≡ 0)) ⊎ ((x : Identifier × Run) × (slice_get rope place ≡ Some x) × (offset ≤ x.1.len))
 
@@ -54,8 +54,8 @@ pub record IsInRun (rope : List (Identifier × Run)) (place low high : ℕ) (x :
   pub from : low ≤ offset
   pub to : offset < high
 
--- the standing from which on the cells behind an origin stand
-pub record BeginsBehind (r : RunsView) (from : Option Identifier) (s : Standing) : Type 0 where
+-- the standing from which on the cells after an origin stand
+pub record BeginsAfter (r : RunsView) (from : Option Identifier) (s : Standing) : Type 0 where
   pub stands : IsBegin r.rope s.place s.offset
   pub at : index_at r s.place s.offset ≡ begin_index (cell_ids (cells_in r)) from
 
@@ -73,14 +73,14 @@ pub record IsFoundCell (rope : List (Identifier × Run)) (f : Found) : Type 0 wh
   pub run : Run
   pub at : slice_get rope f.at.place ≡ Some (run.id, run)
   pub spot : IsCellSpot rope f.id run f.at.offset
-  pub key : f.key ≡ (head_behind f.at.offset (first_of run)).key
+  pub key : f.key ≡ (head_after f.at.offset (first_of run)).key
 
--- a part of the cells that begins behind one whose key is at most that of the part, or at the beginning, and that ends
+-- a part of the cells that begins after one whose key is at most that of the part, or at the beginning, and that ends
 -- before such a one, or at the end; its ends stand where it says
 pub record IsStandingPart (r : RunsView) (p : Part) : Type 0 where
   pub from : HoldsOrigin (low_ids p.most (keyed_cells (cells_in r))) p.from
   pub to : HoldsOrigin (low_ids p.most (rest_of p.from (keyed_cells (cells_in r)))) p.to
-  pub begin : BeginsBehind r p.from p.begin
+  pub begin : BeginsAfter r p.from p.begin
   pub end : EndsBefore r p.to p.end
 
 -- the cells of a part whose key is at most that of the part

@@ -42,7 +42,7 @@ impl Runs {
         self.rope.get(key).copied()
     }
 
-    /// The run behind this many others.
+    /// The run after this many others.
     pub(crate) fn run_at(&self, place: usize) -> Option<Run>
         ensures { result ≡ option_map (λ x. x.1) (slice_get self.now.rope place) }
     {
@@ -111,7 +111,7 @@ impl Runs {
         }
     }
 
-    /// Where the cell of this identifier is, if it is in the run directly behind the one that was used last.
+    /// Where the cell of this identifier is, if it is in the run directly after the one that was used last.
     fn find_next(&self, id: ElementId) -> Option<Spot>
         ensures { IfSome result (λ s. IsCellSpot self.now.rope id s.run s.offset) }
     {
@@ -128,7 +128,7 @@ impl Runs {
         }
     }
 
-    /// Where the cell of this identifier is, if it is in the run that was used last or in the one behind it. This costs
+    /// Where the cell of this identifier is, if it is in the run that was used last or in the one after it. This costs
     /// no search.
     fn find_close(&self, id: ElementId) -> Option<Spot>
         ensures { IfSome result (λ s. IsCellSpot self.now.rope id s.run s.offset) }

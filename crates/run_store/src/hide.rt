@@ -4,12 +4,12 @@ ghost use Rattle.node_rope.specs.Items.{value_under};
 ghost use Rattle.run_store.specs.Changes.{HidesPart, HidesSome, IsHiddenTo, MakesCells};
 ghost use Rattle.run_store.specs.Cells.{cell_ids, cells_hiding, is_hidden_cell as hidden_in};
 ghost use Rattle.run_store.specs.Hiding.{HaveCells, AreHidden};
-ghost use Rattle.run_store.specs.Heads.{head_behind};
+ghost use Rattle.run_store.specs.Heads.{head_after};
 ghost use Rattle.run_store.specs.Runs.{cells_in, first_of, run_to as front_by, rope_parted, parted_as};
 ghost use Rattle.run_store.specs.Stored.{IsRaisedBy};
 
 use crate::find::Spot;
-use crate::parts::{key_of, run_behind, run_to};
+use crate::parts::{key_of, run_after, run_to};
 use crate::run::{Run, Runs};
 use crate::store::StoppedAfter;
 use fugue_ids::{ElementId, MOST_OPERATIONS, NoMemory};
@@ -49,15 +49,15 @@ impl Runs {
             &mut self.rope,
             run,
             hidden(&run_to(run, n)),
-            run_behind(run, n),
+            run_after(run, n),
         )
     }
 
-    /// Hides the cells of a run that stand behind `offset` others.
+    /// Hides the cells of a run that stand after `offset` others.
     fn hide_rest(&mut self, run: &Run, offset: u32) -> Result<(), NoMemory>
         requires held { value_under run.now.id self.old.rope ≡ Some run.now }
         requires inside { offset < run.now.len }
-        ensures { HidesPart result self.old self.new (head_behind offset (first_of run.now)).id
+        ensures { HidesPart result self.old self.new (head_after offset (first_of run.now)).id
             (run.now.len - offset) }
     {
         if offset > 0 {
@@ -65,7 +65,7 @@ impl Runs {
                 &mut self.rope,
                 run,
                 run_to(run, offset),
-                hidden(&run_behind(run, offset)),
+                hidden(&run_after(run, offset)),
             );
         }
         self.rope.put(key_of(run), hidden(run));
@@ -78,14 +78,14 @@ impl Runs {
         requires some { 0 < n }
         requires inside { spot.now.offset + n ≤ spot.now.run.len }
         ensures { MakesCells result self.old self.new
-            (cells_hiding (head_behind spot.now.offset (first_of spot.now.run)).id n (cells_in self.old)) }
+            (cells_hiding (head_after spot.now.offset (first_of spot.now.run)).id n (cells_in self.old)) }
     {
         self.sound();
         if spot.offset == 0 && n < spot.run.len {
             return self.hide_front(&spot.run, n);
         }
         let end = spot.offset + n;
-        self.cut_behind(&spot.run, end)?;
+        self.cut_after(&spot.run, end)?;
         self.hide_rest(&run_to(&spot.run, end), spot.offset)
     }
 
@@ -95,17 +95,17 @@ impl Runs {
         requires some { 0 < n }
         requires inside { spot.now.offset + n ≤ spot.now.run.len }
         ensures { MakesCells result self.old self.new
-            (cells_hiding (head_behind spot.now.offset (first_of spot.now.run)).id n (cells_in self.old)) }
+            (cells_hiding (head_after spot.now.offset (first_of spot.now.run)).id n (cells_in self.old)) }
     {
         self.sound();
-        match self.border(spot, n) {
-            Some(border) => self.shift(&border),
+        match self.boundary(spot, n) {
+            Some(boundary) => self.shift(&boundary),
             None => self.hide_alone(spot, n),
         }
     }
 
-    /// Hides a cell and those behind it in its run, but at most so many. The answer is how many. Those that are hidden
-    /// stay as they are.
+    /// Hides a cell and those after it in its run, but at most so many. Returns how many. Those that are hidden stay as
+    /// they are.
     fn hide_part(&mut self, id: ElementId, most: u32) -> Result<u32, NoMemory>
         requires held { Contains (cell_ids (cells_in self.old)) id }
         requires some { 0 < most }
@@ -172,11 +172,11 @@ impl Runs {
             ≡ record { rope = rope_parted at run.now self.old.rope; letters = self.old.letters; count = self.old.count }) }
         ensures err { OnErr result (self.new ≡ self.old) }
     {
-        part(&mut self.rope, run, run_to(run, at), run_behind(run, at))
+        part(&mut self.rope, run, run_to(run, at), run_after(run, at))
     }
 
     /// Cuts off what stands in the run from this place on, if anything does.
-    pub(crate) fn cut_behind(&mut self, run: &Run, end: u32) -> Result<(), NoMemory>
+    pub(crate) fn cut_after(&mut self, run: &Run, end: u32) -> Result<(), NoMemory>
         requires held { value_under run.now.id self.old.rope ≡ Some run.now }
         requires some { 0 < end }
         requires within { end ≤ run.now.len }

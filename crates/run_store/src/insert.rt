@@ -6,8 +6,8 @@ ghost use Rattle.node_rope.specs.Items.{value_under};
 ghost use Rattle.run_store.specs.Beginning.{CanBegin, begun_run, placed_at};
 ghost use Rattle.run_store.specs.Changes.{MakesCells};
 ghost use Rattle.run_store.specs.Cells.{cell_of, cell_ids};
-ghost use Rattle.run_store.specs.Growth.{HasMoreLetters, MayComeTo, cells_inserted_before, cells_inserted_behind, last_id_of_run};
-ghost use Rattle.run_store.specs.Heads.{head_behind, cell_with_letter, typed_cells};
+ghost use Rattle.run_store.specs.Growth.{HasMoreLetters, MayComeTo, cells_inserted_before, cells_inserted_after, last_id_of_run};
+ghost use Rattle.run_store.specs.Heads.{head_after, cell_with_letter, typed_cells};
 ghost use Rattle.run_store.specs.NewCells.{cell_before, is_continued as continues};
 ghost use Rattle.run_store.specs.Runs.{cells_in, first_of};
 
@@ -27,7 +27,7 @@ pub(crate) enum Beginning {
     First,
     /// Directly before the run with this key.
     Before(ElementId),
-    /// Directly behind this run.
+    /// Directly after this run.
     Behind(Run),
 }
 
@@ -44,7 +44,7 @@ fn longer_at(run: &Run, stretch: u32, start: u32, count: usize) -> Run
     }
 }
 
-/// More letters behind those of the run. Where another stands there, which is another run's, the run's letters are
+/// More letters after those of the run. Where another stands there, which is another run's, the run's letters are
 /// copied.
 fn lengthened(letters: &mut Letters, run: &Run, text: &[char]) -> Result<Run, NoMemory>
     requires some { 0 < run.now.len }
@@ -110,9 +110,9 @@ impl Runs {
     fn extend(&mut self, run: &Run, head: &Head, text: &[char]) -> Result<(), NoMemory>
         requires held { value_under run.now.id self.old.rope ≡ Some run.now }
         requires new { MayComeTo (cells_in self.old) head.now (length text.now) }
-        requires next { head.now ≡ head_behind run.now.len (first_of run.now) }
+        requires next { head.now ≡ head_after run.now.len (first_of run.now) }
         ensures ok { OnOk result (cells_in self.new
-            ≡ cells_inserted_behind (last_id_of_run run.now) (typed_cells head.now text.now) (cells_in self.old)) }
+            ≡ cells_inserted_after (last_id_of_run run.now) (typed_cells head.now text.now) (cells_in self.old)) }
         ensures kept { OnOk result (length self.new.rope ≡ length self.old.rope) }
         ensures err { OnErr result (self.new ≡ self.old) }
     {
@@ -155,32 +155,32 @@ impl Runs {
         }
     }
 
-    /// A new run directly behind the cell at the spot.
+    /// A new run directly after the cell at the spot.
     fn insert_between(&mut self, spot: &Spot, head: &Head, text: &[char]) -> Result<(), NoMemory>
         requires held { value_under spot.now.run.id self.old.rope ≡ Some spot.now.run }
         requires inside { spot.now.offset < spot.now.run.len }
         requires new { MayComeTo (cells_in self.old) head.now (length text.now) }
         ensures { MakesCells result self.old self.new
-            (cells_inserted_behind (head_behind spot.now.offset (first_of spot.now.run)).id (typed_cells head.now text.now)
+            (cells_inserted_after (head_after spot.now.offset (first_of spot.now.run)).id (typed_cells head.now text.now)
             (cells_in self.old)) }
     {
         self.sound();
         let end = spot.offset + 1;
-        self.cut_behind(&spot.run, end)?;
+        self.cut_after(&spot.run, end)?;
         self.begin(Beginning::Behind(run_to(&spot.run, end)), head, text)
     }
 
-    /// New cells directly behind the one at the spot.
+    /// New cells directly after the one at the spot.
     fn insert_at(&mut self, spot: &Spot, head: &Head, text: &[char]) -> Result<(), NoMemory>
         requires held { value_under spot.now.run.id self.old.rope ≡ Some spot.now.run }
         requires inside { spot.now.offset < spot.now.run.len }
         requires new { MayComeTo (cells_in self.old) head.now (length text.now) }
         ensures makes { MakesCells result self.old self.new
-            (cells_inserted_behind (head_behind spot.now.offset (first_of spot.now.run)).id (typed_cells head.now text.now)
+            (cells_inserted_after (head_after spot.now.offset (first_of spot.now.run)).id (typed_cells head.now text.now)
             (cells_in self.old)) }
         ensures continued { OnOk result
             (continues (Some (cell_with_letter
-            (head_behind spot.now.offset (first_of spot.now.run)) 0)) head.now.id head.now.left head.now.right ≡ true
+            (head_after spot.now.offset (first_of spot.now.run)) 0)) head.now.id head.now.left head.now.right ≡ true
             → length self.new.rope ≡ length self.old.rope) }
     {
         self.sound();
@@ -191,7 +191,7 @@ impl Runs {
         }
     }
 
-    /// New cells directly behind this one.
+    /// New cells directly after this one.
     pub(crate) fn insert_behind(
         &mut self,
         at: ElementId,
@@ -201,7 +201,7 @@ impl Runs {
         requires held { Contains (cell_ids (cells_in self.old)) at }
         requires new { MayComeTo (cells_in self.old) head.now (length text.now) }
         ensures makes { MakesCells result self.old self.new
-            (cells_inserted_behind at (typed_cells head.now text.now) (cells_in self.old)) }
+            (cells_inserted_after at (typed_cells head.now text.now) (cells_in self.old)) }
         ensures continued { OnOk result
             (continues (cell_of (cells_in self.old) at) head.now.id head.now.left head.now.right ≡ true
             → length self.new.rope ≡ length self.old.rope) }

@@ -10,7 +10,7 @@ use std::marker::Model;
 /// ranges of it.
 ///
 /// Each run begins in the first stretch, so that a run of one letter costs no more than that letter. One that is typed
-/// on behind the letters of another is copied into a stretch of its own, once.
+/// on after the letters of another is copied into a stretch of its own, once.
 #[derive(Drop)]
 pub struct Letters {
     first: Vec<char>,
@@ -50,7 +50,7 @@ impl Letters {
         }
     }
 
-    /// Letters behind those of the first stretch. The answer is where they begin there.
+    /// Letters after those of the first stretch. Returns where they begin there.
     pub(crate) fn begin(&mut self, text: &[char]) -> Result<u32, NoMemory>
         requires { length (slice_index_or self.old 0 []) < 2 ^ 32 }
         ensures ok { IfOk result (λ start. (start ≡ length (slice_index_or self.old 0 []))
@@ -98,7 +98,7 @@ impl Letters {
         extend_letters(&mut self.others, stretch as usize - 1, text)
     }
 
-    /// Takes the letters of the first stretch back that stand there or behind.
+    /// Takes the letters of the first stretch back that stand there or after.
     pub(crate) fn take_back(&mut self, start: u32)
         ensures { self.new ≡ slice_set self.old 0 (take start (slice_index_or self.old 0 [])) }
     {

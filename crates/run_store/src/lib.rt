@@ -1,7 +1,7 @@
 //! The cells of one place, kept in runs: stretches of cells of one author that stand next to each other.
 #![tactic(auto)]
 
-mod border;
+mod boundary;
 mod cell;
 mod find;
 mod hide;

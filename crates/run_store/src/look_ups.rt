@@ -61,7 +61,7 @@ impl RunStore {
         }
     }
 
-    /// The left origin and the right one. None is the answer for a cell that is not held.
+    /// The left origin and the right one. Returns None for a cell that is not held.
     pub fn origins(&self, id: ElementId) -> Option<(Option<ElementId>, Option<ElementId>)>
         ensures { result ≡ origins_in_cell self.now.cells id }
     {
@@ -78,8 +78,8 @@ impl RunStore {
         self.runs.nth_visible(i)
     }
 
-    /// How many visible cells stand before this one, which may be hidden itself. None is the answer for a cell that is
-    /// not held.
+    /// How many visible cells stand before this one, which may be hidden itself. Returns None for a cell that is not
+    /// held.
     pub fn visible_before(&self, id: ElementId) -> Option<usize>
         ensures some { IfSome result (λ n. n ≡ shown_before self.now.cells id) }
         ensures none { IsNone result ↔ (Contains (cell_ids self.now.cells) id → ⊥) }
@@ -105,7 +105,7 @@ impl RunStore {
         self.runs.visible_spot(i)
     }
 
-    /// The cell behind this one, hidden or not; the first one for None. None comes back for one that is not held or
+    /// The cell after this one, hidden or not; the first one for None. None comes back for one that is not held or
     /// stands last.
     pub fn after(&self, id: Option<ElementId>) -> Option<ElementId>
         ensures { result ≡ following (cell_ids self.now.cells) id }
@@ -120,7 +120,7 @@ impl RunStore {
         self.shown_from(0)
     }
 
-    /// The same walk from the visible cell behind this many others on.
+    /// The same walk from the visible cell after this many others on.
     pub fn shown_from(&self, at: usize) -> Shown<'_>
         ensures { result ≡ drop at (cell_ids (cells_shown self.now.cells)) }
     {
@@ -137,7 +137,7 @@ impl RunStore {
         gather.flush(output)
     }
 
-    /// Puts the text behind what waits to go out.
+    /// Puts the text after what waits to go out.
     pub fn put_text<O: Out>(&self, gather: &mut Gather, output: &mut O) -> Result<(), Failed>
         ensures { GathersText (O.seen output.old) (O.seen output.new) gather.old gather.new result
             (encode_utf8_all (cell_text self.now.cells)) }

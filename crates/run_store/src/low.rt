@@ -3,7 +3,7 @@ ghost use Rattle.std.specs.Prelude.{◌≡◌, ◌<◌, ◌≤◌, ◌+◌, ◌^
 ghost use Rattle.fugue_ids.specs.Keys.{first_low as first_low_in, front_of, key_lt, last_low as last_low_in, rest_of};
 ghost use Rattle.fugue_ids.specs.Listed.{HoldsOrigin};
 ghost use Rattle.run_store.specs.Cells.{cell_ids, keyed_cells};
-ghost use Rattle.run_store.specs.Heads.{head_behind, typed_cells};
+ghost use Rattle.run_store.specs.Heads.{head_after, typed_cells};
 ghost use Rattle.run_store.specs.Runs.{all_cells, cells_in, first_of};
 
 use crate::parts::cell_at;
@@ -39,14 +39,14 @@ fn last_low_of(run: &Run, len: u32, most: Key) -> Option<ElementId>
     }
 }
 
-/// The cell of a run behind `from` others, where its key is at most `most`: those behind it are deeper.
+/// The cell of a run after `from` others, where its key is at most `most`: those after it are deeper.
 fn first_low_of(run: &Run, from: u32, most: Key) -> Option<ElementId>
     requires behind { 0 < from }
     requires counters { run.now.id.counter + run.now.len ≤ 2 ^ 32 }
     requires depths { run.now.key.depth + run.now.len ≤ 2 ^ 32 }
     ensures { (letters : List ℕ) → length letters ≡ run.now.len
         → result ≡ first_low_in most
-        (keyed_cells (typed_cells (head_behind from (first_of run.now)) (drop from letters))) }
+        (keyed_cells (typed_cells (head_after from (first_of run.now)) (drop from letters))) }
 {
     if from >= run.len {
         return None;
@@ -59,7 +59,7 @@ fn first_low_of(run: &Run, from: u32, most: Key) -> Option<ElementId>
 }
 
 impl Runs {
-    /// The first low cell of the runs behind this many.
+    /// The first low cell of the runs after this many.
     fn first_low_from(&self, runs: usize, most: Key) -> Option<ElementId>
         ensures { result ≡ first_low_in most (keyed_cells (all_cells self.now.letters (drop runs self.now.rope))) }
     {
@@ -76,7 +76,7 @@ impl Runs {
         }
     }
 
-    /// The first low cell behind this one, or behind the beginning.
+    /// The first low cell after this one, or after the beginning.
     pub(crate) fn first_low(&self, id: Option<ElementId>, most: Key) -> Option<ElementId>
         requires { HoldsOrigin (cell_ids (cells_in self.now)) id }
         ensures { result ≡ first_low_in most (rest_of id (keyed_cells (cells_in self.now))) }

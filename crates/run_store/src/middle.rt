@@ -5,8 +5,8 @@ ghost use Rattle.fugue_ids.specs.Identifiers.{Identifier};
 ghost use Rattle.fugue_ids.specs.Keys.{between, rest_of, ids as ids_of};
 ghost use Rattle.fugue_ids.specs.Listed.{HoldsOrigin};
 ghost use Rattle.run_store.specs.Cells.{cell_ids, keyed_cells};
-ghost use Rattle.run_store.specs.Heads.{head_behind};
-ghost use Rattle.run_store.specs.Standings.{BeginsBehind, EndsBefore, IsBegin, IsEndStanding, IsFoundCell, IsInRun, IsStandingPart, IsMemberWithin};
+ghost use Rattle.run_store.specs.Heads.{head_after};
+ghost use Rattle.run_store.specs.Standings.{BeginsAfter, EndsBefore, IsBegin, IsEndStanding, IsFoundCell, IsInRun, IsStandingPart, IsMemberWithin};
 ghost use Rattle.run_store.specs.Standings.{found_at, index_at};
 ghost use Rattle.run_store.specs.Runs.{cells_in, first_of};
 ghost use Rattle.run_store.specs.declared.run.Run.{Run};
@@ -16,11 +16,11 @@ use crate::run::{Run, Runs};
 use crate::standing::{Found, Part, Standing};
 use fugue_ids::ElementId;
 
-/// The cell of a run at a place behind `offset` others of it.
+/// The cell of a run at a place after `offset` others of it.
 fn found_in(run: &Run, place: usize, offset: u32) -> Found
     requires counters { run.now.id.counter + offset < 2 ^ 32 }
     requires depths { run.now.key.depth + offset < 2 ^ 32 }
-    ensures { result ≡ found_at place offset (head_behind offset (first_of run.now)) }
+    ensures { result ≡ found_at place offset (head_after offset (first_of run.now)) }
 {
     let cell = cell_at(run, offset);
     Found {
@@ -44,10 +44,10 @@ impl Runs {
         }
     }
 
-    /// Where the cells behind this one begin.
+    /// Where the cells after this one begin.
     pub(crate) fn begin_of(&self, from: &Option<ElementId>) -> Standing
         requires { HoldsOrigin (cell_ids (cells_in self.now)) from.now }
-        ensures { BeginsBehind self.now from.now result }
+        ensures { BeginsAfter self.now from.now result }
     {
         self.sound();
         match *from {

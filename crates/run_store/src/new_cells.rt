@@ -20,7 +20,7 @@ fn is_next(last: &ElementId, id: &ElementId) -> bool
     id.replica == last.replica && id.counter > last.counter && id.counter - last.counter == 1
 }
 
-/// Whether a new cell directly behind this one continues its run.
+/// Whether a new cell directly after this one continues its run.
 pub(crate) fn is_continued(last: &Head, new: &Head) -> bool
     ensures { result ≡ continues (Some (cell_with_letter last.now 0)) new.now.id new.now.left new.now.right }
 {
@@ -46,7 +46,7 @@ impl Runs {
         }
     }
 
-    /// The same of a right origin, which mostly stands directly behind the left one: that is at hand.
+    /// The same of a right origin, which mostly stands directly after the left one: that is at hand.
     fn right_origin(&self, origin: &Option<ElementId>) -> Option<Head>
         ensures is { result ≡ option_map run_head_of (cell_of_origin (cells_in self.now) origin.now) }
         ensures depths { IfSome result (λ h. h.key.depth ≤ length (cells_in self.now)) }

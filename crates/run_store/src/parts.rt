@@ -1,7 +1,7 @@
 //! Single elements of a run, and a prefix or a suffix of it as a run.
 ghost use Rattle.std.specs.Prelude.{◌≡◌, ◌+◌, ◌<◌, ◌≤◌, ◌^◌};
-ghost use Rattle.run_store.specs.Heads.{head_behind};
-ghost use Rattle.run_store.specs.Runs.{first_of, run_behind as rest_by, run_to as front_by};
+ghost use Rattle.run_store.specs.Heads.{head_after};
+ghost use Rattle.run_store.specs.Runs.{first_of, run_after as rest_by, run_to as front_by};
 
 use crate::cell::Head;
 use crate::run::{Origin, Run};
@@ -20,11 +20,11 @@ pub(crate) fn first_cell(run: &Run) -> Head
     }
 }
 
-/// The cell of a run behind n others.
+/// The cell of a run after n others.
 pub(crate) fn cell_at(run: &Run, n: u32) -> Head
     requires counters { run.now.id.counter + n < 2 ^ 32 }
     requires depths { run.now.key.depth + n < 2 ^ 32 }
-    ensures { result ≡ head_behind n (first_of run.now) }
+    ensures { result ≡ head_after n (first_of run.now) }
 {
     if n == 0 {
         return first_cell(run);
@@ -56,7 +56,7 @@ pub(crate) fn run_to(run: &Run, n: u32) -> Run
 }
 
 /// The cells of a run from the place n on, as a run.
-pub(crate) fn run_behind(run: &Run, n: u32) -> Run
+pub(crate) fn run_after(run: &Run, n: u32) -> Run
     requires counters { run.now.id.counter + n < 2 ^ 32 }
     requires depths { run.now.key.depth + n < 2 ^ 32 }
     requires within { n ≤ run.now.len }

@@ -47,7 +47,7 @@ impl Runs {
         if last == *from { None } else { last }
     }
 
-    /// The last low cell of the part, up to this one of it, or else the first one behind it.
+    /// The last low cell of the part, up to this one of it, or else the first one after it.
     fn low_beside(&self, part: &Part, middle: ElementId) -> Option<ElementId>
         requires part { IsStandingPart self.now part.now }
         requires inside { Contains (ids_of (between part.now.from part.now.to (keyed_cells (cells_in self.now))))

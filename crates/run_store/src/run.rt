@@ -109,8 +109,8 @@ impl Runs {
     }
 }
 
-/// Cells that stand next to each other: each but the first is the letter behind the one before it. What it says of
-/// cells is said of the first one. Their letters are a part of one stretch.
+/// Cells that stand next to each other: each but the first is the letter after the one before it. What it says of cells
+/// is said of the first one. Their letters are a part of one stretch.
 #[derive(Clone, Copy)]
 pub struct Run {
     pub(crate) id: ElementId,

@@ -1,7 +1,7 @@
 //! Positions by run index and offset, and an element or a range together with where it stands.
 use fugue_ids::{ElementId, Key};
 
-/// A place among the cells: in the run behind this many others, behind this many of its cells.
+/// A place among the cells: in the run after this many others, after this many of its cells.
 #[derive(Clone, Copy)]
 pub(crate) struct Standing {
     pub(crate) place: usize,
@@ -20,7 +20,7 @@ pub(crate) struct Found {
 /// them, so that a search that narrows it looks up neither again.
 #[derive(Clone, Copy)]
 pub(crate) struct Part {
-    /// It begins behind this cell, or at the beginning.
+    /// It begins after this cell, or at the beginning.
     pub(crate) from: Option<ElementId>,
     /// It ends before this cell, or at the end.
     pub(crate) to: Option<ElementId>,

@@ -23,7 +23,7 @@ use fugue_ids::{
 use std::alloc::Global;
 use std::marker::Model;
 
-/// Want of memory in the midst of several: so many of them were done, from the first on.
+/// An allocation failure in the midst of several: so many of them were done, from the first on.
 #[derive(Clone, Copy, Debug)]
 pub struct StoppedAfter {
     pub done: u32,
@@ -63,7 +63,7 @@ impl RunStore {
         self.runs.look_at(id);
     }
 
-    /// One cell more, in the gap, which is not hidden. After want of memory a run may be parted.
+    /// One cell more, in the gap, which is not hidden. After an allocation failure a run may be parted.
     pub fn insert(
         &mut self,
         gap: Gap,
@@ -90,8 +90,9 @@ impl RunStore {
         self.insert_run(gap, id, left, right, &[ch])
     }
 
-    /// A run of new cells, in the gap, which are not hidden: each but the first has the identifier behind that of the one
-    /// before it, which is its left origin, and the right origin of the first. After want of memory a run may be parted.
+    /// A run of new cells, in the gap, which are not hidden: each but the first has the identifier after that of the
+    /// one before it, which is its left origin, and the right origin of the first. After an allocation failure a run
+    /// may be parted.
     pub fn insert_run(
         &mut self,
         gap: Gap,
@@ -142,7 +143,7 @@ impl RunStore {
     }
 
     /// Hides the cells of so many identifiers from this one on, those of a run at once. Hidden cells stay as they are.
-    /// Want of memory leaves fewer hidden, and tells how many.
+    /// An allocation failure leaves fewer hidden, and tells how many.
     pub fn hide_run(&mut self, first: ElementId, count: u32) -> Result<(), StoppedAfter>
         requires counters { first.counter + count ≤ 2 ^ 32 }
         requires held { HaveCells self.old.cells first count }

@@ -81,7 +81,7 @@ impl Runs {
         self.rope.total() as usize
     }
 
-    /// Where the visible cell behind i others is.
+    /// Where the visible cell after i others is.
     pub(crate) fn visible_spot(&self, i: usize) -> Option<Spot>
         ensures some { IfSome result (λ s. IsInHand (cell_ids (cells_shown (cells_in self.now))) i s.run s.offset) }
         ensures none { IfNone result (slice_get (cell_ids (cells_shown (cells_in self.now))) i ≡ None) }

@@ -13,8 +13,8 @@ use crate::run::Runs;
 use fugue_ids::ElementId;
 
 impl Runs {
-    /// The cell behind this one.
-    fn behind_cell(&self, id: ElementId) -> Option<ElementId>
+    /// The cell after this one.
+    fn after_cell(&self, id: ElementId) -> Option<ElementId>
         ensures { result ≡ first_id (rest_of (Some id) (keyed_cells (cells_in self.now))) }
     {
         self.sound();
@@ -26,12 +26,12 @@ impl Runs {
         }
     }
 
-    /// The cell behind this one; the first one behind the beginning.
+    /// The cell after this one; the first one after the beginning.
     pub(crate) fn behind(&self, id: Option<ElementId>) -> Option<ElementId>
         ensures { result ≡ first_id (rest_of id (keyed_cells (cells_in self.now))) }
     {
         match id {
-            Some(id) => self.behind_cell(id),
+            Some(id) => self.after_cell(id),
             None => self.rope.first(),
         }
     }

@@ -3,10 +3,10 @@ use Rattle.std.proofs.Common.{List, ap, arith, inl, inr, refl, sym, zero, suc, �
 use Rattle.std.specs.Prelude.{Err, IfErr, IfSome, IsSome, None, Ok, OnOk, Option, Result, Some}
 use Rattle.fugue_ids.specs.Identifiers.{Identifier}
 use Rattle.fugue_ids.specs.Keyed.{IsReplaced}
-use Rattle.fugue_ids.specs.Runs.{id_behind, next_id}
+use Rattle.fugue_ids.specs.Runs.{id_after, next_id}
 use Rattle.fugue_ids.specs.declared.op.Op.{Op}
 use Rattle.fugue_ids.proofs.IdentifierLemmas.{cases_id}
-use Rattle.fugue_ids.proofs.RunLemmas.{none_behind, one_behind}
+use Rattle.fugue_ids.proofs.RunLemmas.{none_after, one_after}
 use Rattle.origin_model.specs.sides.Node.{has_node}
 use Rattle.origin_model.specs.declared.operations.Place.TheVariants.{Section as within}
 use Rattle.section_list.specs.SectionList.{AreAllNodes, with_hidden}
@@ -75,9 +75,9 @@ run_hidden zero old new s x placed c h represents = still old new (nothing_hidde
 run_hidden (suc k) old new s x placed c h represents =
     let mid : Contents = with_first_hidden old s x in
     let one : HidesText old mid s x = first_hides old s x in
-    let here : place_at old x ≡ Some (within s) = ap (place_at old) (sym (none_behind x)) ∙ placed 0 (omega arith) in
+    let here : place_at old x ≡ Some (within s) = ap (place_at old) (sym (none_after x)) ∙ placed 0 (omega arith) in
     let others : AnswersUpTo (place_at mid) (next_id x) k (Some (within s)) =
-    λ j less. one.places (id_behind (next_id x) j) ∙ ap (place_at old) (one_behind x j) ∙ placed (suc j) (omega (arith, less)) in
+    λ j less. one.places (id_after (next_id x) j) ∙ ap (place_at old) (one_after x j) ∙ placed (suc j) (omega (arith, less)) in
     run_hidden k mid new s (next_id x) others (rest_hides old mid new s x k one c) (once_hidden x h) (stands_hidden old mid (within s) x here one h represents)
 
 -- what hiding them asks of a manuscript
@@ -87,11 +87,11 @@ pub record RunHeld (m : Contents) (s x : Identifier) (k : ℕ) : Type 0 where
 
 pub run_held : (m : Contents) (h : List Op) (s x : Identifier) (k : ℕ) → Represents m h → 0 < k → AnswersUpTo (place_at m) x k (Some (within s)) → RunHeld m s x k
 run_held m h s x k represents some placed = record {
-  there = (held_at m h (within s) (id_behind x 0) represents (placed 0 some)).there;
-  held = each (section_at m s) (λ j less. (held_at m h (within s) (id_behind x j) represents (placed j less)).held);
+  there = (held_at m h (within s) (id_after x 0) represents (placed 0 some)).there;
+  held = each (section_at m s) (λ j less. (held_at m h (within s) (id_after x j) represents (placed j less)).held);
 }
   where
-    each : (o : Option Titled) → ((j : ℕ) → j < k → IfSome o (λ (t : Titled). has_node t.text.nodes (id_behind x j) ≡ true))
+    each : (o : Option Titled) → ((j : ℕ) → j < k → IfSome o (λ (t : Titled). has_node t.text.nodes (id_after x j) ≡ true))
         → IfSome o (λ (t : Titled). AreAllNodes t.text.nodes x k)
     each None f = tt
     each (Some t) f = f

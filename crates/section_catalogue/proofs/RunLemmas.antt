@@ -5,11 +5,11 @@ use Rattle.std.proofs.lemmas.Bool.{cases_Bool, true≢false}
 use Rattle.fugue_ids.specs.Identifiers.{Identifier}
 use Rattle.fugue_ids.specs.Keyed.{IsReplaced}
 use Rattle.fugue_ids.specs.declared.limits.TheConstants.{MOST_OPERATIONS}
-use Rattle.fugue_ids.specs.Runs.{id_behind, in_a_row, next_id}
+use Rattle.fugue_ids.specs.Runs.{id_after, in_a_row, next_id}
 use Rattle.fugue_ids.specs.declared.op.Op.{Op}
 use Rattle.fugue_ids.specs.declared.op.Op.TheVariants.{Text}
 use Rattle.fugue_ids.proofs.IdentifierLemmas.{cases_id, id_at-other, id_at-same}
-use Rattle.fugue_ids.proofs.RunLemmas.{none_behind, one_behind}
+use Rattle.fugue_ids.proofs.RunLemmas.{none_after, one_after}
 use Rattle.origin_model.specs.edits.Edits.{ReadyInTurn, history_with}
 use Rattle.origin_model.specs.order.Laws.{IsIn}
 use Rattle.origin_model.specs.operations.History.{holder, holds}
@@ -33,17 +33,17 @@ use Rattle.section_catalogue.proofs.TextLemmas.{if_some}
 use Rattle.section_catalogue.proofs.UnchangedLemmas.{still}
 
 -- an identifier is one of the first from this one on, or it is not
-cases_among : (y first : Identifier) (k : ℕ) → ((j : ℕ) × (j < k) × (y ≡ id_behind first j)) ⊎ ((j : ℕ) → j < k → y ≢ id_behind first j)
+cases_among : (y first : Identifier) (k : ℕ) → ((j : ℕ) × (j < k) × (y ≡ id_after first j)) ⊎ ((j : ℕ) → j < k → y ≢ id_after first j)
 cases_among y first zero = inr (λ j less. absurd (omega (arith, less)))
 cases_among y first (suc k) =
-    elim (cases_id y (id_behind first k)) [
+    elim (cases_id y (id_after first k)) [
       | inl e ↦ inl (k, omega arith, e)
       | inr n ↦
           elim (cases_among y first k) [
             | inl w ↦ let less : w.0 < k = w.1 in inl (w.0, omega (arith, less), w.2)
             | inr f ↦ inr (λ j less e.
                 elim (cases_last j k less) [
-                  | inl d ↦ n (e ∙ ap (id_behind first) d)
+                  | inl d ↦ n (e ∙ ap (id_after first) d)
                   | inr d ↦ f j d e
                 ])
           ]
@@ -128,13 +128,13 @@ rest_adds old mid new s n ch text one adds = record {
     others = λ y d. adds.sections.others y d ∙ sym (one.sections.others y d);
   };
   places = record {
-    here = λ j less. ap (place_at new) (one_behind n.id j) ∙ adds.places.here (suc j) (omega (arith, less));
+    here = λ j less. ap (place_at new) (one_after n.id j) ∙ adds.places.here (suc j) (omega (arith, less));
     others = λ y d.
         elim (cases_id y n.id) [
-          | inl e ↦ ap (place_at new) (e ∙ sym (none_behind n.id)) ∙ adds.places.here 0 (omega arith) ∙ sym one.places.here ∙ ap (place_at mid) (sym e)
-          | inr apart ↦ adds.places.others y (λ j. elim j as (λ j. j < suc (length text) → y ≢ id_behind n.id j) [
-            | zero ↦ λ less e. apart (e ∙ none_behind n.id)
-            | suc i ↦ λ less e. d i (omega (arith, less)) (e ∙ sym (one_behind n.id i))
+          | inl e ↦ ap (place_at new) (e ∙ sym (none_after n.id)) ∙ adds.places.here 0 (omega arith) ∙ sym one.places.here ∙ ap (place_at mid) (sym e)
+          | inr apart ↦ adds.places.others y (λ j. elim j as (λ j. j < suc (length text) → y ≢ id_after n.id j) [
+            | zero ↦ λ less e. apart (e ∙ none_after n.id)
+            | suc i ↦ λ less e. d i (omega (arith, less)) (e ∙ sym (one_after n.id i))
           ]) ∙ sym (one.places.others y apart)
         ];
   };
@@ -155,14 +155,14 @@ run_stands (ch ∷ text) old new h id section left right s ready adds =
 -- none of the identifiers of a run is held before it comes
 run_unheld : (text : List ℕ) (h : List Op) (id section : Identifier) (left right : Option Identifier) → ReadyInTurn h (in_a_row id section left right text) → (j : ℕ)
     → j < length text
-    → holds h (id_behind id j) ≡ false
+    → holds h (id_after id j) ≡ false
 run_unheld [] h id section left right ready j less = absurd (omega (arith, less))
-run_unheld (ch ∷ text) h id section left right ready zero less = ap (holds h) (none_behind id) ∙ ready_is_new h (Text id section left right ch) id ready.0 refl
+run_unheld (ch ∷ text) h id section left right ready zero less = ap (holds h) (none_after id) ∙ ready_is_new h (Text id section left right ch) id ready.0 refl
 run_unheld (ch ∷ text) h id section left right ready (suc j) less =
     let op : Op = Text id section left right ch in
-    let later : holds (op ∷ h) (id_behind (next_id id) j) ≡ false = run_unheld text (op ∷ h) (next_id id) section (Some id) right ready.1 j (omega (arith, less)) in
-    elim (cases_Bool (holds h (id_behind id (suc j)))) [
-      | inl t ↦ absurd (true≢false (sym (holds-older op h (id_behind id (suc j)) t) ∙ ap (holds (op ∷ h)) (sym (one_behind id j)) ∙ later))
+    let later : holds (op ∷ h) (id_after (next_id id) j) ≡ false = run_unheld text (op ∷ h) (next_id id) section (Some id) right ready.1 j (omega (arith, less)) in
+    elim (cases_Bool (holds h (id_after id (suc j)))) [
+      | inl t ↦ absurd (true≢false (sym (holds-older op h (id_after id (suc j)) t) ∙ ap (holds (op ∷ h)) (sym (one_after id j)) ∙ later))
       | inr f ↦ f
     ]
 
@@ -187,7 +187,7 @@ module _ (m : Contents) (h : List Op) (represents : Represents m h) (id section 
 
   pub run_unplaced : AnswersUpTo (place_at m) id (length (ch ∷ text)) None
   run_unplaced j less =
-      let x : Identifier = id_behind id j in
+      let x : Identifier = id_after id j in
       represents.places x ∙ ap place_held (none_held (holder h x) (run_unheld (ch ∷ text) h id section left right ready j less))
 
   pub run_new : IfSome (section_at m section) (λ (t : Titled). CanFollow t.text.nodes (first_node id left right) (length (ch ∷ text)))
@@ -196,7 +196,7 @@ module _ (m : Contents) (h : List Op) (represents : Represents m h) (id section 
       (λ t l.
       let new = new_in m (Text id section left right ch) id refl first_ready (within section) t.text refl l in
       record {
-        fresh = λ j less. unheld_node (within section) h t.text (id_behind id j) represents.lawful l (run_unheld (ch ∷ text) h id section left right ready j less);
+        fresh = λ j less. unheld_node (within section) h t.text (id_after id j) represents.lawful l (run_unheld (ch ∷ text) h id section left right ready j less);
         left = new.left;
         right = new.right;
       })

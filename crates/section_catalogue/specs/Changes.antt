@@ -2,7 +2,7 @@
 use Rattle.std.specs.Prelude.{◌≡◌, ◌≢◌, ◌<◌, Option, Some, true, ℕ, List, length, option_map, IfSome, IsSome}
 use Rattle.fugue_ids.specs.Identifiers.{Identifier}
 use Rattle.fugue_ids.specs.Keyed.{IsReplaced}
-use Rattle.fugue_ids.specs.Runs.{id_behind}
+use Rattle.fugue_ids.specs.Runs.{id_after}
 use Rattle.origin_model.specs.sides.Node.{has_node, has_origin}
 use Rattle.origin_model.specs.declared.operations.node.Node.{Node}
 use Rattle.origin_model.specs.declared.operations.Place.{Place}
@@ -28,7 +28,7 @@ section_with_text n ch e = option_map (λ (t : Titled). record t { text = with_e
 abbrev pub with_hidden_text : Identifier → Option Titled → Option Titled
 with_hidden_text x e = option_map (λ (t : Titled). record t { text = with_hidden x t.text }) e
 
--- the section with an element for each letter: n, and then each typed behind the one before it
+-- the section with an element for each letter: n, and then each typed after the one before it
 abbrev pub section_with_run : Node → List ℕ → Option Titled → Option Titled
 section_with_run n text e = option_map (λ (t : Titled). record t { text = with_elements n text t.text }) e
 
@@ -38,14 +38,14 @@ section_with_run_hidden x k e = option_map (λ (t : Titled). record t { text = w
 
 -- the first k identifiers from this one on have this answer
 abbrev pub AnswersUpTo : {X : Type 0} → (Identifier → X) → Identifier → ℕ → X → Type 0
-AnswersUpTo f first k value = (j : ℕ) → j < k → f (id_behind first j) ≡ value
+AnswersUpTo f first k value = (j : ℕ) → j < k → f (id_after first j) ≡ value
 
 -- the first k identifiers from this one on have this answer now, and each other one has its own as before
 pub record IsFilled {X : Type 0} (old new : Identifier → X) (first : Identifier) (k : ℕ) (value : X) : Type 0 where
   pub here : AnswersUpTo new first k value
-  pub others : (y : Identifier) → ((j : ℕ) → j < k → y ≢ id_behind first j) → new y ≡ old y
+  pub others : (y : Identifier) → ((j : ℕ) → j < k → y ≢ id_after first j) → new y ≡ old y
 
--- a node and so many behind it may come to these: none of their identifiers is there, and the origins of the first are
+-- a node and so many after it may come to these: none of their identifiers is there, and the origins of the first are
 pub record CanFollow (ns : List Node) (n : Node) (k : ℕ) : Type 0 where
   pub fresh : AreNoNodes ns n.id k
   pub left : has_origin ns n.left ≡ true
@@ -63,7 +63,7 @@ pub record AddsText (old new : Contents) (s : Identifier) (n : Node) (ch : ℕ) 
   pub sections : IsReplaced (section_at old) (section_at new) s (section_with_text n ch (section_at old s))
   pub places : IsReplaced (place_at old) (place_at new) n.id (Some (within s))
 
--- elements of the section s came, one for each letter: n, and then each typed behind the one before it
+-- elements of the section s came, one for each letter: n, and then each typed after the one before it
 pub record AddsTyped (old new : Contents) (s : Identifier) (n : Node) (text : List ℕ) : Type 0 where
   pub listed : new.catalogue ≡ old.catalogue
   pub sections : IsReplaced (section_at old) (section_at new) s (section_with_run n text (section_at old s))

@@ -15,7 +15,7 @@ use section_list::{SectionList, StoppedAfter};
 use std::alloc::Global;
 use std::collections::BTreeMap;
 
-/// A new section. The maps come first, since they give back what they took after want of memory.
+/// A new section. The maps come first, since they give back what they took after an allocation failure.
 pub(crate) fn add_section(
     tables: &mut Tables,
     alloc: Global,
@@ -48,8 +48,8 @@ pub(crate) fn add_section(
     }
 }
 
-/// New elements of a section, one for each letter: the first, and then each typed behind the one before it. The places
-/// that were noted are forgotten after want of memory.
+/// New elements of a section, one for each letter: the first, and then each typed after the one before it. The places
+/// that were noted are forgotten after an allocation failure.
 pub(crate) fn add_run(
     tables: &mut Tables,
     section: &ElementId,
@@ -84,7 +84,7 @@ pub(crate) fn add_run(
     }
 }
 
-/// The value stands at the identifier now. After want of memory the map answers as before.
+/// The value stands at the identifier now. After an allocation failure the map answers as before.
 pub(crate) fn put<V: Drop>(
     map: &mut BTreeMap<ElementId, V>,
     id: ElementId,
@@ -104,7 +104,7 @@ pub(crate) fn clear<V: Drop>(map: &mut BTreeMap<ElementId, V>, id: &ElementId)
     map.remove(id);
 }
 
-/// More elements in the text of a section. After want of memory all is as before.
+/// More elements in the text of a section. After an allocation failure all is as before.
 pub(crate) fn insert_text(
     sections: &mut BTreeMap<ElementId, Section>,
     section: &ElementId,
@@ -146,7 +146,7 @@ pub(crate) fn hide_text(
     }
 }
 
-/// Hides so many elements in the text of a section, from this identifier on. Want of memory leaves fewer hidden.
+/// Hides so many elements in the text of a section, from this identifier on. An allocation failure leaves fewer hidden.
 fn hide_texts(
     sections: &mut BTreeMap<ElementId, Section>,
     section: &ElementId,

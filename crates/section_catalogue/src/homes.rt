@@ -1,7 +1,7 @@
 //! The places of elements.
 ghost use Rattle.std.specs.Prelude.{◌≡◌, ◌<◌, ◌≤◌, ◌+◌, ◌-◌, ◌^◌, None, Some, OnErr, OnOk, ℕ, refl};
 ghost use Rattle.fugue_ids.specs.Keyed.{IsReplaced};
-ghost use Rattle.fugue_ids.specs.Runs.{id_behind};
+ghost use Rattle.fugue_ids.specs.Runs.{id_after};
 ghost use Rattle.section_catalogue.specs.Changes.{AnswersUpTo, IsFilled};
 ghost use Rattle.section_catalogue.specs.Contents.{entry_at, places_of};
 
@@ -68,7 +68,7 @@ pub(crate) fn note_homes(
     requires unplaced { AnswersUpTo (entry_at (places_of homes.old.values)) first count None }
     ensures ok { OnOk result (IsFilled (entry_at (places_of homes.old.values))
         (entry_at (places_of homes.new.values)) first count (Some place)) }
-    ensures newest { OnOk result (homes.new.newest ≡ Some (id_behind first (count - 1))) }
+    ensures newest { OnOk result (homes.new.newest ≡ Some (id_after first (count - 1))) }
     ensures err { OnErr result (homes.new ≡ homes.old) }
 {
     homes.insert_run(first, count, Home { place })
@@ -77,7 +77,7 @@ pub(crate) fn note_homes(
 /// The places of the elements that came last go, the newest first. This wants no memory.
 pub(crate) fn forget_homes(homes: &mut StretchMap<Home>, first: ElementId, count: u32)
     requires counters { first.counter + count ≤ 2 ^ 32 }
-    requires newest { homes.old.newest ≡ Some (id_behind first (count - 1)) }
+    requires newest { homes.old.newest ≡ Some (id_after first (count - 1)) }
     ensures { IsFilled (entry_at (places_of homes.old.values)) (entry_at (places_of homes.new.values)) first count None }
 {
     let mut left = count;

@@ -99,7 +99,7 @@ impl Manuscript {
         }
     }
 
-    /// Takes in a Section or a Text that is Ready. After want of memory all is as before.
+    /// Takes in a Section or a Text that is Ready. After an allocation failure all is as before.
     pub fn insert(&mut self, op: &Op) -> Result<(), NoMemory>
         requires ready { IsReadyOn self.old op.now }
         requires placed { IsSome (place op.now) }
@@ -136,8 +136,8 @@ impl Manuscript {
         }
     }
 
-    /// Takes in a run whose Texts are Ready in their turn, at the cost of one, but for its letters. After want of memory
-    /// all is as before.
+    /// Takes in a run whose Texts are Ready in their turn, at the cost of one, but for its letters. After an allocation
+    /// failure all is as before.
     pub fn insert_run(&mut self, start: &RunStart, text: &[char]) -> Result<(), NoMemory>
         requires some { 0 < length text.now }
         requires counters { start.now.id.counter + length text.now ≤ 2 ^ 32 }
@@ -155,7 +155,7 @@ impl Manuscript {
         add_run(&mut self.tables, &start.section, &first, text)
     }
 
-    /// Hides an element that a place holds. A hidden one stays as it is. After want of memory all is as before.
+    /// Hides an element that a place holds. A hidden one stays as it is. After an allocation failure all is as before.
     pub fn hide(&mut self, id: ElementId) -> Result<(), NoMemory>
         requires { IsSome (place_at self.old id) }
         ensures ok { OnOk result (Hides self.old self.new id) }
@@ -169,7 +169,7 @@ impl Manuscript {
     }
 
     /// Hides so many elements of a section, from this identifier on, what its text has in one run at once. Hidden ones
-    /// stay as they are. Want of memory leaves fewer hidden, and tells how many.
+    /// stay as they are. An allocation failure leaves fewer hidden, and tells how many.
     pub fn hide_run(
         &mut self,
         section: &ElementId,

@@ -8,11 +8,11 @@ use Rattle.std.proofs.lemmas.List.{length-map, map-append}
 use Rattle.std.proofs.lemmas.List.Elements.{All-contains, All-nil, Contains-append_left}
 use Rattle.fugue_ids.specs.Identifiers.{Identifier, id_eq, origin_eq}
 use Rattle.fugue_ids.specs.Listed.{index_of}
-use Rattle.fugue_ids.specs.Runs.{id_behind, next_id}
+use Rattle.fugue_ids.specs.Runs.{id_after, next_id}
 use Rattle.fugue_ids.specs.declared.key.Key.{Key}
 use Rattle.fugue_ids.proofs.IdentifierLemmas.{eq-id_eq, index_of-insert, ne-id_eq, origin_eq-refl}
 use Rattle.fugue_ids.proofs.ListLemmas.{contains_map, contains_middle, contains_none}
-use Rattle.fugue_ids.proofs.RunLemmas.{none_behind, one_behind}
+use Rattle.fugue_ids.proofs.RunLemmas.{none_after, one_after}
 use Rattle.fugue_ids.specs.declared.key.Gap.{Gap}
 use Rattle.fugue_ids.specs.declared.key.Gap.TheVariants.{Alone}
 use Rattle.origin_model.specs.order.Order.{order}
@@ -131,7 +131,7 @@ module _ (older : List Node) (n : Node) (front : List Cell) (c : Cell) (back : L
   next_new : has_node ns (next_id n.id) ≡ false → IsNew ns (next_node n)
   next_new fresh = record { fresh = fresh; left = n_held; right = origin_stays older n n.right k.are_nodes.0.right }
 
-  -- it stands directly behind
+  -- it stands directly after
   ids-are : cell_ids cs ≡ cell_ids front ++ n.id ∷ cell_ids back
   ids-are =
       map-append (λ (z : Cell). z.id) (front ++ c ∷ []) back ∙ ap (λ ids. ids ++ cell_ids back) (map-append (λ (z : Cell). z.id) front (c ∷ []))
@@ -153,7 +153,7 @@ module _ (older : List Node) (n : Node) (front : List Cell) (c : Cell) (back : L
       insert_at_end [] ys x = refl
       insert_at_end (y ∷ xs) ys x = ap (λ zs. y ∷ zs) (insert_at_end xs ys x)
 
-  -- and its key is that of a letter behind the newest one
+  -- and its key is that of a letter after the newest one
   next_key : new_cell_key cs (Some n.id) n.right ≡ record { depth = suc c.key.depth; forest = 0 }
   next_key =
       let f = find_cell cs n.id (subst (λ x. Contains (cell_ids cs) x) own (contains_map (λ (z : Cell). z.id) cs c c_in)) in
@@ -169,7 +169,7 @@ module _ (older : List Node) (n : Node) (front : List Cell) (c : Cell) (back : L
         forest = ap (λ b. if b then 0 else forest_beside cs (Some n.id) n.right) shares i;
       }
 
--- the letters behind the newest one go in one after another
+-- the letters after the newest one go in one after another
 rest_grown : (older : List Node) (n : Node) (front : List Cell) (h : Head) (ch : ℕ) (back : List Cell) → h.id ≡ n.id → h.right ≡ n.right → h.hidden ≡ false
     → AreInOrder (n ∷ older) ((front ++ cell_with_letter h ch ∷ []) ++ back) → (text : List ℕ) → AreNoNodes (n ∷ older) (next_id n.id) (length text)
     → Grown (run_nodes (next_node n) (length text) (n ∷ older)) ((front ++ cell_with_letter h ch ∷ []) ++ (typed_cells (next_head h) text ++ back))
@@ -180,7 +180,7 @@ rest_grown older n front h ch back own right shown k (next ∷ text) fresh =
     let ns : List Node = n ∷ older in
     let one : List Cell = front ++ c ∷ [] in
     let cs : List Cell = one ++ back in
-    let first : has_node ns (next_id n.id) ≡ false = ap (has_node ns) (sym (none_behind (next_id n.id))) ∙ fresh 0 (omega arith) in
+    let first : has_node ns (next_id n.id) ≡ false = ap (has_node ns) (sym (none_after (next_id n.id))) ∙ fresh 0 (omega arith) in
     let new : IsNew ns (next_node n) = next_new older n front c back own k first in
     let order = next_order older n front c back own k first in
     let within : length one ≤ length (cell_ids cs) = omega (arith, length-append one back, length-map cs (λ (z : Cell). z.id)) in
@@ -194,10 +194,10 @@ rest_grown older n front h ch back own right shown k (next ∷ text) fresh =
     let is : seen (next_node n ∷ ns) ((one ++ cell_with_letter (next_head h) next ∷ []) ++ back) ≡ with_element (next_node n) next (seen ns cs) =
     ap (seen (next_node n ∷ ns)) (sym cells) ∙ one_grown ns cs k (next_node n) new (length one) within order next in
     let more : AreNoNodes (next_node n ∷ ns) (next_id (next_id n.id)) (length text) = λ j less.
-    let up : next_id n.id ≢ id_behind (next_id (next_id n.id)) j = λ e. let c : n.id.counter + 1 ≡ n.id.counter + 1 + 1 + j =
+    let up : next_id n.id ≢ id_after (next_id (next_id n.id)) j = λ e. let c : n.id.counter + 1 ≡ n.id.counter + 1 + 1 + j =
     ap (λ (x : Identifier). x.counter) e in absurd (omega (arith, c)) in
-    ap (λ b. is_some (if b then Some (next_node n) else find_node ns (id_behind (next_id (next_id n.id)) j))) (ne-id_eq (next_id n.id) (id_behind (next_id (next_id n.id)) j) up)
-    ∙ ap (has_node ns) (one_behind (next_id n.id) j) ∙ fresh (suc j) (omega (arith, less)) in
+    ap (λ b. is_some (if b then Some (next_node n) else find_node ns (id_after (next_id (next_id n.id)) j))) (ne-id_eq (next_id n.id) (id_after (next_id (next_id n.id)) j) up)
+    ∙ ap (has_node ns) (one_after (next_id n.id) j) ∙ fresh (suc j) (omega (arith, less)) in
     let grown = rest_grown ns (next_node n) one (next_head h) next back (ap next_id own) right shown kept text more in
     let same : (one ++ cell_with_letter (next_head h) next ∷ []) ++ (typed_cells (next_head (next_head h)) text ++ back) ≡ one
     ++ (typed_cells (next_head h) (next ∷ text) ++ back) =
@@ -217,7 +217,7 @@ module _ (ns : List Node) (cs : List Cell) (n : Node) (gap : Gap) (j : Joins ns 
   -- cells with identifiers that no node has are fresh
   pub are_fresh : (count : ℕ) → AreNoNodes ns n.id count → AreFresh cs n.id count
   are_fresh count free i less m =
-      true≢false (sym ((nodes_listed ns j.kept.are_nodes (id_behind n.id i)).1 (subst (λ t. Contains t (id_behind n.id i)) j.kept.in_order m)) ∙ free i less)
+      true≢false (sym ((nodes_listed ns j.kept.are_nodes (id_after n.id i)).1 (subst (λ t. Contains t (id_after n.id i)) j.kept.in_order m)) ∙ free i less)
 
   -- the longer place
   module _ (longer : List Node) (more : List Cell) (text : List ℕ) (some : 0 < length text) (free : AreNoNodes ns n.id (length text)) (l : longer ≡ run_nodes n (length text) ns)
@@ -235,9 +235,9 @@ module _ (ns : List Node) (cs : List Cell) (n : Node) (gap : Gap) (j : Joins ns 
         let kept : AreInOrder (n ∷ ns) ((front ++ c ∷ []) ++ back) = subst (AreInOrder (n ∷ ns)) (sym same) (keeps_more ns cs j.kept n j.new index ch placed) in
         let is : seen (n ∷ ns) ((front ++ c ∷ []) ++ back) ≡ with_element n ch (seen ns cs) = ap (seen (n ∷ ns)) same ∙ one_grown ns cs j.kept n j.new index within placed ch in
         let behind : AreNoNodes (n ∷ ns) (next_id n.id) (length rest) = λ i less.
-        let up : n.id ≢ id_behind (next_id n.id) i = λ e. let k : n.id.counter ≡ n.id.counter + 1 + i = ap (λ (x : Identifier). x.counter) e in absurd (omega (arith, k)) in
-        ap (λ b. is_some (if b then Some n else find_node ns (id_behind (next_id n.id) i))) (ne-id_eq n.id (id_behind (next_id n.id) i) up)
-        ∙ ap (has_node ns) (one_behind n.id i) ∙ unheld (suc i) (omega (arith, less)) in
+        let up : n.id ≢ id_after (next_id n.id) i = λ e. let k : n.id.counter ≡ n.id.counter + 1 + i = ap (λ (x : Identifier). x.counter) e in absurd (omega (arith, k)) in
+        ap (λ b. is_some (if b then Some n else find_node ns (id_after (next_id n.id) i))) (ne-id_eq n.id (id_after (next_id n.id) i) up)
+        ∙ ap (has_node ns) (one_after n.id i) ∙ unheld (suc i) (omega (arith, less)) in
         let grown = rest_grown ns n front h ch back refl refl refl kept rest behind in
         let all : (front ++ c ∷ []) ++ (typed_cells (next_head h) rest ++ back) ≡ inserted_at index (typed_cells h (ch ∷ rest)) cs =
         append_assoc front (c ∷ []) (typed_cells (next_head h) rest ++ back) in (

@@ -12,7 +12,7 @@ use Rattle.fugue_ids.specs.declared.op.Op.{Op}
 use Rattle.fugue_ids.proofs.IdentifierLemmas.{cases_id, eq-id_eq, ne-id_eq, origin_eq-true}
 use Rattle.fugue_ids.proofs.ListLemmas.{all_from_contains, all_insert, contains_cases, contains_here, contains_none, contains_there}
 use Rattle.fugue_ids.specs.Keys.{Keyed}
-use Rattle.fugue_ids.specs.Runs.{id_behind}
+use Rattle.fugue_ids.specs.Runs.{id_after}
 use Rattle.origin_model.specs.operations.History.{holder, left_of}
 use Rattle.origin_model.specs.order.Order.{has_left, right_beside}
 use Rattle.origin_model.specs.sides.Keys.{depth_above, forest_above, search_key_of, with_keys as keyed_in, keyed_order, new_key}
@@ -220,7 +220,7 @@ kept_hidden ns cs after x k (Err e) ok err = subst (AreInOrder ns) (sym err) k
 -- some are hidden, and the store keeps the nodes
 keeps_run_hidden : (n : ℕ) (x : Identifier) (ns : List Node) (cs : List Cell) → AreInOrder ns cs → AreInOrder ns (cells_hiding x n cs)
 keeps_run_hidden zero x ns cs k = k
-keeps_run_hidden (suc n) x ns cs k = keeps_run_hidden n (id_behind x 1) ns (map (cell_hiding x) cs) (keeps_hidden ns cs k x)
+keeps_run_hidden (suc n) x ns cs k = keeps_run_hidden n (id_after x 1) ns (map (cell_hiding x) cs) (keeps_hidden ns cs k x)
 
 -- however many were hidden, the store keeps the nodes
 pub kept_run_hidden : {T E : Type 0} (ns : List Node) (cs after : List Cell) (x : Identifier) (n : ℕ) (done : E → ℕ) → AreInOrder ns cs → (r : Result T E)

@@ -3,7 +3,7 @@ use Rattle.std.specs.Prelude.{◌≡◌, ◌<◌, false, true, List, [], ◌∷�
 use Rattle.std.specs.List.{All, insert}
 use Rattle.fugue_ids.specs.Identifiers.{Identifier}
 use Rattle.fugue_ids.specs.Listed.{index_of}
-use Rattle.fugue_ids.specs.Runs.{id_behind}
+use Rattle.fugue_ids.specs.Runs.{id_after}
 use Rattle.origin_model.specs.sides.Keys.{search_key_of}
 use Rattle.origin_model.specs.sides.Node.{AreNodes, as_ops, find_node, has_node, node_order}
 use Rattle.origin_model.specs.declared.operations.node.Node.{Node}
@@ -49,18 +49,18 @@ with_element n ch s = record {
   cells = insert s.cells (index_of (node_order (n ∷ s.nodes)) n.id) (newest_cell n s.nodes ch);
 }
 
--- an element for each letter, one after another: n, and then each behind the one before it
+-- an element for each letter, one after another: n, and then each after the one before it
 abbrev pub with_elements : Node → List ℕ → Listing → Listing
 with_elements n [] s = s
 with_elements n (ch ∷ text) s = with_elements (next_node n) text (with_element n ch s)
 
 -- none of the first k identifiers from this one on is a node's
 abbrev pub AreNoNodes : List Node → Identifier → ℕ → Type 0
-AreNoNodes ns id k = (j : ℕ) → j < k → has_node ns (id_behind id j) ≡ false
+AreNoNodes ns id k = (j : ℕ) → j < k → has_node ns (id_after id j) ≡ false
 
 -- the first k identifiers from this one on are nodes'
 abbrev pub AreAllNodes : List Node → Identifier → ℕ → Type 0
-AreAllNodes ns id k = (j : ℕ) → j < k → has_node ns (id_behind id j) ≡ true
+AreAllNodes ns id k = (j : ℕ) → j < k → has_node ns (id_after id j) ≡ true
 
 -- the element x hidden
 abbrev pub with_hidden : Identifier → Listing → Listing

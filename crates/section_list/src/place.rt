@@ -98,8 +98,8 @@ impl SectionList {
         self.store.nth_visible(i)
     }
 
-    /// How many visible elements stand before this one, which may be hidden itself. None is the answer for one that is
-    /// not held.
+    /// How many visible elements stand before this one, which may be hidden itself. Returns None for one that is not
+    /// held.
     pub fn visible_before(&self, id: ElementId) -> Option<usize>
         ensures some { IfSome result (λ n. n ≡ shown_before self.now.cells id) }
         ensures none { IsNone result ↔ (Contains (cell_ids self.now.cells) id → ⊥) }
@@ -132,7 +132,7 @@ impl SectionList {
         self.store.shown_from(at)
     }
 
-    /// The element behind this one, hidden or not; the first one for None. None comes back for one that is not held or
+    /// The element after this one, hidden or not; the first one for None. None comes back for one that is not held or
     /// stands last.
     pub fn after(&self, id: Option<ElementId>) -> Option<ElementId>
         ensures { result ≡ following (cell_ids self.now.cells) id }
@@ -140,7 +140,7 @@ impl SectionList {
         self.store.after(id)
     }
 
-    /// One element more, which is not hidden. After want of memory all is as before.
+    /// One element more, which is not hidden. After an allocation failure all is as before.
     pub fn insert(
         &mut self,
         id: ElementId,
@@ -162,8 +162,8 @@ impl SectionList {
         self.insert_run(&Node { id, left, right }, &[ch])
     }
 
-    /// An element for each letter, which are not hidden: the first, and then each typed behind the one before it. After
-    /// want of memory all is as before.
+    /// An element for each letter, which are not hidden: the first, and then each typed after the one before it. After
+    /// an allocation failure all is as before.
     pub fn insert_run(&mut self, first: &Node, text: &[char]) -> Result<(), NoMemory>
         requires some { 0 < length text.now }
         requires counters { first.now.id.counter + length text.now ≤ 2 ^ 32 }
@@ -216,8 +216,8 @@ impl SectionList {
         self.store.hide(id)
     }
 
-    /// Hides the elements of so many identifiers from this one on, what the store has in one run at once. Hidden ones stay
-    /// as they are. Want of memory leaves fewer hidden, and tells how many.
+    /// Hides the elements of so many identifiers from this one on, what the store has in one run at once. Hidden ones
+    /// stay as they are. An allocation failure leaves fewer hidden, and tells how many.
     pub fn hide_run(&mut self, first: ElementId, count: u32) -> Result<(), StoppedAfter>
         requires counters { first.counter + count ≤ 2 ^ 32 }
         requires held { AreAllNodes self.old.nodes first count }
@@ -238,7 +238,7 @@ impl SectionList {
         self.store.write_text(output)
     }
 
-    /// Puts the text behind what waits to go out.
+    /// Puts the text after what waits to go out.
     pub fn put_text<O: Out>(&self, gather: &mut Gather, output: &mut O) -> Result<(), Failed>
         ensures { GathersText (O.seen output.old) (O.seen output.new) gather.old gather.new result
             (encode_utf8_all (cell_text self.now.cells)) }

@@ -13,7 +13,7 @@ use Rattle.section_plan.proofs.LikenessLemmas.{empty_new, empty_old}
 use Rattle.section_plan.proofs.PairLemmas.{free_before, kept_both, part_free_before}
 use Rattle.fugue_ids.proofs.ListLemmas.{slice_get-seam}
 
--- a member stands where it stood, when another one comes behind
+-- a member stands where it stood, when another one comes after
 still_there : {A : Type 0} (xs : List A) (x y : A) (k : ℕ) → slice_get xs k ≡ Some y → slice_get (xs ++ x ∷ []) k ≡ Some y
 still_there [] x y k e = cc
 still_there (z ∷ xs) x y zero e = e

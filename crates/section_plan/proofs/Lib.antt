@@ -5,4 +5,4 @@ pub mod ChosenLemmas
 pub mod OrderLemmas
 pub mod LikenessLemmas
 pub mod AlikeLemmas
-pub mod MarkLemmas
+pub mod HashLemmas

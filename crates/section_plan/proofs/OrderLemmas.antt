@@ -207,7 +207,7 @@ placed_stay order stays part e placed a b l m p q = placed a b l m (was (get_or 
     was x (inl l) = elim (cases_eq x part) [ inl same ↦ inr (rw same e) | inr ne ↦ inl (omega arith) ]
     was x (inr f) = inr f
 
--- so is one that stands behind the part before it
+-- so is one that stands after the part before it
 moved_same : (order : List ℕ) (from part : ℕ) → from < length order → get_or order from 0 ≡ part → order_after_move order from from part ≡ order
 moved_same order from part l e = ext_get_or 0 (order_after_move order from from part) order len (λ k m. by k (omega (arith, len)))
   where

@@ -1,7 +1,7 @@
 -- The texts of free sections, of which one is to be alike.
 use Rattle.std.specs.Prelude.{◌≡◌, ◌≢◌, ℕ, ◌<◌, false, None, Some, List, [], length, slice_get}
 use Rattle.section_plan.specs.Likeness.{alike}
-use Rattle.section_plan.specs.Marks.{AreReversed}
+use Rattle.section_plan.specs.Hashes.{AreReversed}
 use Rattle.section_plan.specs.Matching.{KeepsPairs, part_of, section_of, text_at_place}
 use Rattle.section_plan.specs.declared.alike.Scalars.{Scalars}
 use Rattle.section_plan.specs.declared.pairs.Pairs.{Pairs}

@@ -4,4 +4,4 @@ pub mod Rises
 pub mod Orders
 pub mod Likeness
 pub mod Alike
-pub mod Marks
+pub mod Hashes

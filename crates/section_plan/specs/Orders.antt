@@ -23,7 +23,7 @@ ArePlaced order stays next = (a b : ℕ) → a < b → b < length order → IsPa
 abbrev pub order_after_move : List ℕ → (from to part : ℕ) → List ℕ
 order_after_move order from to part = insert (remove order from) to part
 
--- where a part stands, and where it would stand behind the part before it, or in front of all
+-- where a part stands, and where it would stand after the part before it, or in front of all
 pub record IsStepOf (order : List ℕ) (part from to : ℕ) : Type 0 where
   pub from_within : from < length order
   pub to_within : to < length order

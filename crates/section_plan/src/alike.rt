@@ -4,11 +4,11 @@ ghost use Rattle.std.specs.Prelude.{◌≡◌, ◌↔◌, ◌<◌, IfNone, IfOk,
 ghost use Rattle.std.specs.Str.{chars};
 ghost use Rattle.section_plan.specs.Alike.{AreThere, HasSectionTexts, IsServed, NoneAmong};
 ghost use Rattle.section_plan.specs.Likeness.{alike};
-ghost use Rattle.section_plan.specs.Marks.{AreThirds, IsTextIndex, list_of, reversed_of};
+ghost use Rattle.section_plan.specs.Hashes.{AreThirds, IsTextIndex, list_of, reversed_of};
 ghost use Rattle.section_plan.specs.Matching.{KeepsPairs, IsMatching, NoPairIsAlike, part_of as part_in};
 
+use crate::hashes::{HashIndex, earlier, find_fronted, third_hash};
 use crate::likeness::are_alike;
-use crate::marks::{Marks, earlier, find_fronted, third_mark};
 use crate::pairs::Pairs;
 use crate::part::Part;
 use fugue_ids::NoMemory;
@@ -68,28 +68,28 @@ pub(crate) fn is_candidate(pairs: &Pairs, section: &Scalars, text: &[char]) -> b
 #[derive(Drop)]
 struct Index {
     texts: Vec<Scalars>,
-    front: Marks,
-    end: Marks,
+    front: HashIndex,
+    end: HashIndex,
 }
 
-fn front_marks(alloc: Global, texts: &[Scalars]) -> Result<Vec<u64>, NoMemory>
-    ensures { IfOk result (λ marks. AreThirds list_of texts.now (length texts.now) marks.items) }
+fn front_hashes(alloc: Global, texts: &[Scalars]) -> Result<Vec<u64>, NoMemory>
+    ensures { IfOk result (λ hashes. AreThirds list_of texts.now (length texts.now) hashes.items) }
 {
-    let mut marks = Vec::new(alloc);
+    let mut hashes = Vec::new(alloc);
     'texts: for text in texts {
-        marks.push(third_mark(text.list.as_slice()))?;
+        hashes.push(third_hash(text.list.as_slice()))?;
     }
-    Ok(marks)
+    Ok(hashes)
 }
 
-fn end_marks(alloc: Global, texts: &[Scalars]) -> Result<Vec<u64>, NoMemory>
-    ensures { IfOk result (λ marks. AreThirds reversed_of texts.now (length texts.now) marks.items) }
+fn end_hashes(alloc: Global, texts: &[Scalars]) -> Result<Vec<u64>, NoMemory>
+    ensures { IfOk result (λ hashes. AreThirds reversed_of texts.now (length texts.now) hashes.items) }
 {
-    let mut marks = Vec::new(alloc);
+    let mut hashes = Vec::new(alloc);
     'texts: for text in texts {
-        marks.push(third_mark(text.reversed.as_slice()))?;
+        hashes.push(third_hash(text.reversed.as_slice()))?;
     }
-    Ok(marks)
+    Ok(hashes)
 }
 
 /// The texts of the free sections.
@@ -98,8 +98,8 @@ fn index_of(alloc: Global, pairs: &Pairs, sections: &[Part<'_>]) -> Result<Index
     ensures is { IfOk result (λ index. IsTextIndex index.texts.items index.front index.end) }
 {
     let texts = scalars_of(alloc, pairs, sections)?;
-    let front = Marks::of(alloc, front_marks(alloc, texts.as_slice())?)?;
-    let end = Marks::of(alloc, end_marks(alloc, texts.as_slice())?)?;
+    let front = HashIndex::of(alloc, front_hashes(alloc, texts.as_slice())?)?;
+    let end = HashIndex::of(alloc, end_hashes(alloc, texts.as_slice())?)?;
     Ok(Index { texts, front, end })
 }
 

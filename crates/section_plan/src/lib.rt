@@ -3,9 +3,9 @@
 
 mod alike;
 mod completing;
+mod hashes;
 mod keys;
 mod likeness;
-mod marks;
 mod matching;
 mod orders;
 mod pairing;

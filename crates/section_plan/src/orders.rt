@@ -44,7 +44,7 @@ fn place_of(order: &[usize], part: usize, near: usize) -> usize
     0
 }
 
-/// Where a part stands, and where it would stand behind the part before it, or in front of all.
+/// Where a part stands, and where it would stand after the part before it, or in front of all.
 fn step_of(order: &[usize], part: usize, near: usize) -> Step
     requires order { IsOrder order.now }
     requires within { part < length order.now }
@@ -78,9 +78,9 @@ fn reorder(order: &mut Vec<usize>, step: Step, part: usize) -> Result<(), NoMemo
     Ok(())
 }
 
-/// Places the section of the next part: behind that of the part before it, unless it stays. Answers the step that it takes.
-/// Sections are looked for from `near` on. It becomes the place of the one that was looked for, so those that stand in order
-/// take no time.
+/// Places the section of the next part: after that of the part before it, unless it stays. Answers the step that it
+/// takes. Sections are looked for from `near` on. It becomes the place of the one that was looked for, so those that
+/// stand in order take no time.
 pub fn place_next(
     order: &mut Vec<usize>,
     stays: &[bool],

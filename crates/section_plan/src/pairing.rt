@@ -276,7 +276,7 @@ fn place_of(once: &BTreeMap<&str, Option<usize>>, name: &str) -> Option<usize> {
     }
 }
 
-/// The free sections of each key: the first one, and behind each the next one.
+/// The free sections of each key: the first one, and after each the next one.
 #[derive(Drop)]
 struct Queues<'a> {
     first: BTreeMap<&'a str, usize>,

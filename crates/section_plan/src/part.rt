@@ -1,3 +1,5 @@
+//! A section or a part of a draft: its title and its text.
+
 /// A title, and the text under it.
 #[derive(Clone, Copy)]
 pub struct Part<'a> {

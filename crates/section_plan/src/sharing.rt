@@ -9,14 +9,14 @@ use fugue_ids::NoMemory;
 use std::alloc::Global;
 use std::collections::BTreeMap;
 
-/// The most sections, and the most parts, that have a mark which counts.
+/// The most sections, and the most parts, that have a fingerprint which counts.
 const MOST_TEXTS: usize = 8;
 
-/// What a mark that one section and one part alone have weighs: divisible by each number of texts that counts.
+/// What a fingerprint that one section and one part alone have weighs: divisible by each number of texts that counts.
 const WHOLE: u64 = 840 * 840;
 
-/// A mark of a text, by a hash of its words, and whose text that is.
-type Mark = (u64, usize);
+/// A fingerprint of a text, by a hash of its words, and whose text that is.
+type Fingerprint = (u64, usize);
 
 /// A section and a part that share something, the best ones first, and of these the first ones.
 #[derive(Clone, Copy, Debug, PartialEq, Eq, PartialOrd, Ord)]
@@ -53,19 +53,23 @@ fn candidates_of(
 ) -> Result<Vec<Candidate>, NoMemory> {
     let old = free_sections(alloc, pairs, sections.len())?;
     let new = free_parts(alloc, pairs, parts.len())?;
-    let old_marks = marks_of(alloc, sections, old.as_slice())?;
-    let new_marks = marks_of(alloc, parts, new.as_slice())?;
-    let shared = shared_weights(alloc, old_marks.as_slice(), new_marks.as_slice())?;
+    let old_fingerprints = fingerprints_of(alloc, sections, old.as_slice())?;
+    let new_fingerprints = fingerprints_of(alloc, parts, new.as_slice())?;
+    let shared = shared_weights(
+        alloc,
+        old_fingerprints.as_slice(),
+        new_fingerprints.as_slice(),
+    )?;
     let old_whole = whole_weights(
         alloc,
-        old_marks.as_slice(),
-        new_marks.as_slice(),
+        old_fingerprints.as_slice(),
+        new_fingerprints.as_slice(),
         sections.len(),
     )?;
     let new_whole = whole_weights(
         alloc,
-        new_marks.as_slice(),
-        old_marks.as_slice(),
+        new_fingerprints.as_slice(),
+        old_fingerprints.as_slice(),
         parts.len(),
     )?;
     let mut candidates = Vec::new(alloc);
@@ -128,48 +132,60 @@ fn words_of(alloc: Global, text: &str) -> Result<Vec<u64>, NoMemory> {
     Ok(words)
 }
 
-/// The marks of these texts, in order: each word, each pair of neighbours and each run of five, once for each text.
-fn marks_of(alloc: Global, sides: &[Part<'_>], places: &[usize]) -> Result<Vec<Mark>, NoMemory> {
-    let mut marks = Vec::new(alloc);
+/// The fingerprints of these texts, in order: each word, each pair of neighbours and each run of five, once for each text.
+fn fingerprints_of(
+    alloc: Global,
+    sides: &[Part<'_>],
+    places: &[usize],
+) -> Result<Vec<Fingerprint>, NoMemory> {
+    let mut fingerprints = Vec::new(alloc);
     'places: for place in places {
         if let Some(side) = sides.get(*place) {
             let words = words_of(alloc, side.text)?;
-            add_marks(&mut marks, words.as_slice(), *place)?;
+            add_fingerprints(&mut fingerprints, words.as_slice(), *place)?;
         }
     }
-    marks.sort()?;
-    marks.dedup();
-    Ok(marks)
+    fingerprints.sort()?;
+    fingerprints.dedup();
+    Ok(fingerprints)
 }
 
-fn add_marks(marks: &mut Vec<Mark>, words: &[u64], place: usize) -> Result<(), NoMemory> {
+fn add_fingerprints(
+    fingerprints: &mut Vec<Fingerprint>,
+    words: &[u64],
+    place: usize,
+) -> Result<(), NoMemory> {
     'words: for (k, word) in words.iter().enumerate() {
-        marks.push((*word, place))?;
+        fingerprints.push((*word, place))?;
         let behind = &words[k + 1..];
         if let Some(second) = behind.first() {
             let pair = joined(*word, *second);
-            marks.push((pair, place))?;
+            fingerprints.push((pair, place))?;
             if let (Some(third), Some(fourth), Some(fifth)) = (
                 behind.get(1),
                 behind.get(2),
                 behind.get(3),
             ) {
                 let run = joined(joined(pair, joined(*third, *fourth)), *fifth);
-                marks.push((run, place))?;
+                fingerprints.push((run, place))?;
             }
         }
     }
     Ok(())
 }
 
-/// The marks with this hash, of those in order.
-fn with_hash(marks: &[Mark], hash: u64) -> &[Mark] {
-    let from = marks.partition_point(|mark| mark.0 < hash);
-    let to = marks.partition_point(|mark| mark.0 <= hash);
-    if from <= to { &marks[from..to] } else { &[] }
+/// The fingerprints with this hash, of those in order.
+fn with_hash(fingerprints: &[Fingerprint], hash: u64) -> &[Fingerprint] {
+    let from = fingerprints.partition_point(|fingerprint| fingerprint.0 < hash);
+    let to = fingerprints.partition_point(|fingerprint| fingerprint.0 <= hash);
+    if from <= to {
+        &fingerprints[from..to]
+    } else {
+        &[]
+    }
 }
 
-/// What a mark weighs that so many texts on both sides have.
+/// What a fingerprint weighs that so many texts on both sides have.
 fn weight_for(old: usize, new: usize) -> u64 {
     if old > MOST_TEXTS || new > MOST_TEXTS {
         return 0;
@@ -180,15 +196,15 @@ fn weight_for(old: usize, new: usize) -> u64 {
 /// How much each section and part share that share anything.
 fn shared_weights(
     alloc: Global,
-    old: &[Mark],
-    new: &[Mark],
+    old: &[Fingerprint],
+    new: &[Fingerprint],
 ) -> Result<BTreeMap<(usize, usize), u64>, NoMemory> {
     let mut shared = BTreeMap::new(alloc);
-    'old: for mark in old {
-        let others = with_hash(new, mark.0);
-        let weight = weight_for(with_hash(old, mark.0).len(), others.len());
+    'old: for fingerprint in old {
+        let others = with_hash(new, fingerprint.0);
+        let weight = weight_for(with_hash(old, fingerprint.0).len(), others.len());
         if weight > 0 {
-            add_weights(&mut shared, mark.1, others, weight)?;
+            add_weights(&mut shared, fingerprint.1, others, weight)?;
         }
     }
     Ok(shared)
@@ -197,7 +213,7 @@ fn shared_weights(
 fn add_weights(
     shared: &mut BTreeMap<(usize, usize), u64>,
     section: usize,
-    parts: &[Mark],
+    parts: &[Fingerprint],
     weight: u64,
 ) -> Result<(), NoMemory> {
     'parts: for part in parts {
@@ -208,21 +224,21 @@ fn add_weights(
     Ok(())
 }
 
-/// What all marks of each text weigh together.
+/// What all fingerprints of each text weigh together.
 fn whole_weights(
     alloc: Global,
-    marks: &[Mark],
-    others: &[Mark],
+    fingerprints: &[Fingerprint],
+    others: &[Fingerprint],
     count: usize,
 ) -> Result<Vec<u64>, NoMemory> {
     let mut weights = vec![in alloc; 0u64; count]?;
-    'marks: for mark in marks {
-        if mark.1 < weights.len() {
+    'fingerprints: for fingerprint in fingerprints {
+        if fingerprint.1 < weights.len() {
             let weight = weight_for(
-                with_hash(marks, mark.0).len(),
-                with_hash(others, mark.0).len(),
+                with_hash(fingerprints, fingerprint.0).len(),
+                with_hash(others, fingerprint.0).len(),
             );
-            weights[mark.1] = weights[mark.1].saturating_add(weight);
+            weights[fingerprint.1] = weights[fingerprint.1].saturating_add(weight);
         }
     }
     Ok(weights)

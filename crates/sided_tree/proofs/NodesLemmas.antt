@@ -9,10 +9,10 @@ use Rattle.origin_model.specs.sides.Detached.{NoOrigin, without}
 use Rattle.origin_model.specs.sides.Node.{find_node}
 use Rattle.origin_model.specs.declared.operations.node.Node.{Node}
 use Rattle.origin_model.proofs.SharedLemmas.{found_without}
-use Rattle.stretch_map.specs.Rules.{IsFollowedBy, typed_behind}
+use Rattle.stretch_map.specs.Rules.{IsFollowedBy, typed_after}
 use Rattle.stretch_map.specs.declared.follows.Typed.{Typed}
 use Rattle.fugue_ids.proofs.OrderLemmas.{id_cmp_total}
-use Rattle.fugue_ids.specs.Runs.{id_behind}
+use Rattle.fugue_ids.specs.Runs.{id_after}
 use Rattle.sided_tree.specs.Nodes.{IsNodeMap, node_with}
 
 -- at first there are none
@@ -62,11 +62,11 @@ other_left x y (k ∷ ns) n free e =
       | inr d ↦ other_left x y ns n free.2 (sym (ap (λ b. if b then Some k else find_node ns y) (ne-id_eq k.id y d)) ∙ e)
     ]
 
--- the element behind what no node has as an origin was not typed there
-pub not_followed : (m : FinMap id_cmp Typed) (ns : List Node) (x : Identifier) → IsNodeMap m ns → NoOrigin x ns → IsFollowedBy typed_behind (get m) x → ⊥
+-- the element after what no node has as an origin was not typed there
+pub not_followed : (m : FinMap id_cmp Typed) (ns : List Node) (x : Identifier) → IsNodeMap m ns → NoOrigin x ns → IsFollowedBy typed_after (get m) x → ⊥
 not_followed m ns x is free followed =
-    let next : Identifier = id_behind x 1 in
-    let typed : Typed = typed_behind x followed.value 1 in
+    let next : Identifier = id_after x 1 in
+    let typed : Typed = typed_after x followed.value 1 in
     let here : x.counter + 0 ≡ x.counter = omega arith in
     other_left x next ns (node_with next typed) free (sym (is next) ∙ ap (option_map (node_with next)) followed.followed)
     (λ i. Some (record { replica = x.replica; counter = here i }))

@@ -1,4 +1,4 @@
--- The comparison of siblings by an order of identifiers: right origins by their positions, and the end behind them all.
+-- The comparison of siblings by an order of identifiers: right origins by their positions, and the end after them all.
 use Rattle.std.proofs.Common.{List, arith, false, nat_eq, nat_lt, subst, sym, true, ℕ, ◌<◌, ◌∙◌, ◌≡◌, length, Bool}
 use Rattle.std.specs.Prelude.{None, Option, Some}
 use Rattle.std.proofs.lemmas.Bool.{ne_eqb}

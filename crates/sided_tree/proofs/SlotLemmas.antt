@@ -11,7 +11,7 @@ use Rattle.fugue_ids.specs.Passing.{Falls, last_passing}
 use Rattle.fugue_ids.specs.declared.key.Key.{Key}
 use Rattle.fugue_ids.proofs.ListLemmas.{contains_filter_from, contains_here, contains_there}
 use Rattle.origin_model.specs.sides.KeyLaws.{HoldsElement}
-use Rattle.origin_model.specs.sides.KeyedGap.{child_key, gap_behind, gap_by_keys, part_from, part_to, siblings, slot_key, slot_part}
+use Rattle.origin_model.specs.sides.KeyedGap.{child_key, gap_after, gap_by_keys, part_from, part_to, siblings, slot_key, slot_part}
 use Rattle.origin_model.specs.sides.Keys.{keyed_order}
 use Rattle.origin_model.specs.sides.Node.{AreNodes, as_ops, node_order}
 use Rattle.origin_model.specs.sides.Slot.{slot_by}
@@ -25,7 +25,7 @@ use Rattle.fugue_ids.proofs.LowLemmas.{front_held, low_in}
 use Rattle.fugue_ids.proofs.PartedLemmas.{to_held}
 use Rattle.origin_model.proofs.edits.SplitLemmas.{end_in}
 
--- what holds of all holds of those behind an element, and of those before one
+-- what holds of all holds of those after an element, and of those before one
 all_rest : (P : Keyed → Type 0) (x : Option Identifier) (es : List Keyed) → All P es → All P (rest_of x es)
 all_rest P None es a = a
 all_rest P (Some x) [] a = a
@@ -133,8 +133,8 @@ module _ (n : Node) (ns : List Node) (es : List Keyed) (new : AreNodes (n ∷ ns
         by_slot (LeftOf q) h fit g = fit (λ e. cc)
 
     -- the gap by the last that goes before
-    pub by_earlier : (o : Option Identifier) → o ≡ last_passing first (siblings es s k) → gap_behind es s k o ≡ gap_by_keys es own (slot_key (as_ops ns) own) first
-    by_earlier o e = ap (gap_behind es s k) e ∙ (λ i. gap_by_keys es (is i) (key_is i) first)
+    pub by_earlier : (o : Option Identifier) → o ≡ last_passing first (siblings es s k) → gap_after es s k o ≡ gap_by_keys es own (slot_key (as_ops ns) own) first
+    by_earlier o e = ap (gap_after es s k) e ∙ (λ i. gap_by_keys es (is i) (key_is i) first)
 
     -- an earlier sibling is listed
     pub earlier_held : (e : Identifier) → last_passing first (siblings es s k) ≡ Some e → Contains (ids es) e

@@ -16,10 +16,10 @@ is_earlier_sibling ns n = goes_before (node_order ns) (as_ops ns) (as_op n) n.id
 abbrev pub siblings_in : List Keyed → Part → List Identifier
 siblings_in es part = low_ids part.key (between part.from part.to es)
 
--- the part begins behind an element whose key is at most that of the part, or at the beginning
+-- the part begins after an element whose key is at most that of the part, or at the beginning
 abbrev pub BeginsLow : List Keyed → Part → Type 0
 BeginsLow es part = HoldsOrigin (low_ids part.key es) part.from
 
--- it ends before such an element behind its beginning, or at the end
+-- it ends before such an element after its beginning, or at the end
 abbrev pub EndsLow : List Keyed → Part → Type 0
 EndsLow es part = HoldsOrigin (low_ids part.key (rest_of part.from es)) part.to

@@ -2,7 +2,7 @@
 use Rattle.std.specs.Prelude.{◌≡◌, List, Some, option_map}
 use Rattle.std.specs.FinMap.{FinMap, get}
 use Rattle.fugue_ids.specs.Identifiers.{Identifier, id_cmp}
-use Rattle.fugue_ids.specs.Runs.{id_behind}
+use Rattle.fugue_ids.specs.Runs.{id_after}
 use Rattle.origin_model.specs.sides.Node.{find_node}
 use Rattle.origin_model.specs.declared.operations.node.Node.{Node}
 use Rattle.stretch_map.specs.declared.follows.Typed.{Typed}
@@ -15,10 +15,10 @@ node_with x t = record { id = x; left = t.left; right = t.right }
 abbrev pub IsNodeMap : FinMap id_cmp Typed → List Node → Type 0
 IsNodeMap m ns = (x : Identifier) → option_map (node_with x) (get m x) ≡ find_node ns x
 
--- the node was typed behind the one before it: that one is its left origin, and the two have the same right origin
+-- the node was typed after the one before it: that one is its left origin, and the two have the same right origin
 pub record IsTyped (ns : List Node) (n : Node) : Type 0 where
   pub before : Node
   pub held : find_node ns before.id ≡ Some before
-  pub next : id_behind before.id 1 ≡ n.id
+  pub next : id_after before.id 1 ≡ n.id
   pub left : n.left ≡ Some before.id
   pub right : n.right ≡ before.right

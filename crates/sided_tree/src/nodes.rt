@@ -56,8 +56,8 @@ impl Nodes {
         }
     }
 
-    /// One node more. After want of memory the nodes are as before. None is wanted for a node that was typed behind the
-    /// one before it.
+    /// One node more. After an allocation failure the nodes are as before. None is wanted for a node that was typed
+    /// after the one before it.
     pub fn push(&mut self, node: Node) -> Result<(), NoMemory>
         requires fresh { has_node self.old node.id ≡ false }
         ensures ok { OnOk result (self.new ≡ node ∷ self.old) }

@@ -71,7 +71,7 @@ pub(crate) fn slot_part<F: OrderOf>(order: &F, slot: &Slot, key: Key) -> Option<
     })
 }
 
-/// What stands directly before and directly behind that part.
+/// What stands directly before and directly after that part.
 fn slot_ends<F: OrderOf>(order: &F, slot: &Slot, key: Key) -> (Option<ElementId>, Option<ElementId>)
     requires held { HoldsElement (ids (F.listed order.now)) slot.now }
     ensures from { result.0 ≡ part_from (F.listed order.now) slot.now key }

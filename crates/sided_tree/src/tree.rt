@@ -98,8 +98,8 @@ impl SidedTree {
         find_gap(&self.nodes, order, &node)
     }
 
-    /// One node more. After want of memory the tree is as before. Of all calls, this one alone takes memory, and none
-    /// for a node that was typed behind the one before it.
+    /// One node more. After an allocation failure the tree is as before. Of all calls, this one alone takes memory, and
+    /// none for a node that was typed after the one before it.
     ///
     /// The order is not looked at: where the node stands is specified by its key.
     pub fn attach<F: OrderOf>(

@@ -18,7 +18,7 @@ use Rattle.stretch_map.specs.Contents.{StretchEntry, Latest, Layout, entries_wit
 use Rattle.stretch_map.specs.Stretches.{AreStretches, Covers, Has, IsLaid, IsLatest, IsReadIn, KeepsEntry, kept_at, latest_at}
 use Rattle.stretch_map.specs.declared.stretches.Stretch.{Stretch}
 use Rattle.fugue_ids.proofs.OrderLemmas.{id_cmp_total}
-use Rattle.fugue_ids.specs.Runs.{id_behind}
+use Rattle.fugue_ids.specs.Runs.{id_after}
 use Rattle.fugue_ids.proofs.OptionLemmas.{cases_number}
 
 -- what is found where the first entry is the one that is looked for
@@ -34,14 +34,14 @@ found_in_run : {V : Type 0} (nth : Identifier → V → ℕ → V) (f : Identifi
     → f.replica ≡ q.replica → f.counter ≤ q.counter → q.counter < f.counter + n → find id_cmp q (run nth f v n ++ rest) ≡ Some (nth f v (q.counter - f.counter))
 found_in_run nth f v zero q rest r a b = absurd (omega arith)
 found_in_run nth f v (suc n) q rest r a b =
-    elim (cases_id (id_behind f n) q) [
+    elim (cases_id (id_after f n) q) [
       | inl e ↦
           let there : f.counter + n ≡ q.counter = ap (λ x. x.counter) e in
           let steps : n ≡ q.counter - f.counter = omega arith in
-          find-own q (id_behind f n) (nth f v n) (run nth f v n ++ rest) e ∙ ap (λ k. Some (nth f v k)) steps
+          find-own q (id_after f n) (nth f v n) (run nth f v n ++ rest) e ∙ ap (λ k. Some (nth f v k)) steps
       | inr d ↦
           let apart : f.counter + n ≢ q.counter = λ e. d (λ i. record { replica = r i; counter = e i }) in
-          find-other q (id_behind f n) (nth f v n) (run nth f v n ++ rest) d ∙ found_in_run nth f v n q rest r a (omega (arith, apart))
+          find-other q (id_after f n) (nth f v n) (run nth f v n ++ rest) d ∙ found_in_run nth f v n q rest r a (omega (arith, apart))
     ]
 
 -- another identifier is not
@@ -49,11 +49,11 @@ past_run : {V : Type 0} (nth : Identifier → V → ℕ → V) (f : Identifier) 
     → (f.replica ≡ q.replica → f.counter ≤ q.counter → q.counter < f.counter + n → ⊥) → find id_cmp q (run nth f v n ++ rest) ≡ find id_cmp q rest
 past_run nth f v zero q rest out = refl
 past_run nth f v (suc n) q rest out =
-    let other : id_behind f n ≢ q = λ e.
+    let other : id_after f n ≢ q = λ e.
     let there : f.counter + n ≡ q.counter = ap (λ x. x.counter) e in
     out (ap (λ x. x.replica) e) (omega arith) (omega arith)
     in
-    find-other q (id_behind f n) (nth f v n) (run nth f v n ++ rest) other ∙ past_run nth f v n q rest (λ r a b. out r a (omega arith))
+    find-other q (id_after f n) (nth f v n) (run nth f v n ++ rest) other ∙ past_run nth f v n q rest (λ r a b. out r a (omega arith))
 
 -- numbers are in order or the other way round
 pub cases_le : (a b : ℕ) → (a ≤ b) ⊎ (b < a)

@@ -2,7 +2,7 @@
 use Rattle.std.proofs.Common.{ap, arith, inl, inr, refl, subst, suc, sym, zero, ℕ, ◌+◌, ◌-◌, ◌<◌, ◌∙◌, ◌≡◌, ◌≤◌}
 use Rattle.std.specs.Prelude.{Some}
 use Rattle.fugue_ids.specs.Identifiers.{Identifier}
-use Rattle.fugue_ids.specs.Runs.{id_behind}
+use Rattle.fugue_ids.specs.Runs.{id_after}
 use Rattle.fugue_ids.proofs.IdentifierLemmas.{cases_id}
 use Rattle.stretch_map.specs.Contents.{StretchEntry, Layout, value_in}
 use Rattle.stretch_map.specs.Stretches.{Adds, AreStretches, CanCome, Covers, EndsAt, GoesOn, Has, last_identifier, up_to}
@@ -38,11 +38,11 @@ module _ {V : Type 0} (nth : Identifier → V → ℕ → V) (reaches : Identifi
               absurd (not_in_new (last_identifier run) (record { replica = refl; from = begun; to = omega arith }) x d.1 c)
         ]
 
-    module _ (joins : (first : Identifier) (v : V) (j : ℕ) → reaches first v j → reaches (id_behind first j) (nth first v j) 1 → reaches first v (j + 1))
-        (adds : (first : Identifier) (v : V) (j k : ℕ) → nth (id_behind first j) (nth first v j) k ≡ nth first v (j + k))
-        (goes_on : (first : Identifier) (v : V) (j k : ℕ) → reaches first v (j + k) → reaches (id_behind first j) (nth first v j) k)
+    module _ (joins : (first : Identifier) (v : V) (j : ℕ) → reaches first v j → reaches (id_after first j) (nth first v j) 1 → reaches first v (j + 1))
+        (adds : (first : Identifier) (v : V) (j k : ℕ) → nth (id_after first j) (nth first v j) k ≡ nth first v (j + k))
+        (goes_on : (first : Identifier) (v : V) (j k : ℕ) → reaches first v (j + k) → reaches (id_after first j) (nth first v j) k)
         (e : StretchEntry V) (old : Has l e) (goes : GoesOn nth reaches e run.0 run.1.value) (sets : Sets l k (up_to e run.1.last)) where
-      -- how many steps the new one is behind the first identifier of the one that goes on
+      -- how many steps the new one is after the first identifier of the one that goes on
       abbrev steps : ℕ
       steps = run.0.counter - e.0.counter
 
@@ -55,14 +55,14 @@ module _ {V : Type 0} (nth : Identifier → V → ℕ → V) (reaches : Identifi
       next_is : e.1.last + 1 ≡ run.0.counter
       next_is = goes.next
 
-      there : (j : ℕ) → id_behind run.0 j ≡ id_behind e.0 (steps + j)
+      there : (j : ℕ) → id_after run.0 j ≡ id_after e.0 (steps + j)
       there j =
           let begun = begun_old in
           let next = next_is in
           let c : run.0.counter + j ≡ e.0.counter + (run.0.counter - e.0.counter + j) = omega (arith, begun, next) in
           λ i. record { replica = sym goes.replica i; counter = c i }
 
-      here : run.0 ≡ id_behind e.0 steps
+      here : run.0 ≡ id_after e.0 steps
       here =
           let begun = begun_old in
           let next = next_is in
@@ -79,11 +79,11 @@ module _ {V : Type 0} (nth : Identifier → V → ℕ → V) (reaches : Identifi
       reached_there (suc j) less =
           let plus : j + 1 ≡ suc j = omega arith in
           let same : run.0.counter - e.0.counter + j + 1 ≡ run.0.counter - e.0.counter + suc j = omega arith in
-          let one : reaches (id_behind run.0 j) (nth run.0 run.1.value j) 1 =
+          let one : reaches (id_after run.0 j) (nth run.0 run.1.value j) 1 =
           goes_on run.0 run.1.value j 1 (subst (reaches run.0 run.1.value) (sym plus) (comes.reached (suc j) less)) in
           subst (reaches e.0 e.1.value) same
           (joins e.0 e.1.value (steps + j) (reached_there j (omega (arith, less)))
-          (subst (λ v. reaches (id_behind e.0 (steps + j)) v 1) (value_there j) (subst (λ x. reaches x (nth run.0 run.1.value j) 1) (there j) one)))
+          (subst (λ v. reaches (id_after e.0 (steps + j)) v 1) (value_there j) (subst (λ x. reaches x (nth run.0 run.1.value j) 1) (there j) one)))
 
       grown_fits : Fits reaches l (up_to e run.1.last)
       grown_fits =

@@ -61,7 +61,7 @@ module _ {V : Type 0} (ls ks : List (ℕ × Latest V)) where
       ]
 
 module _ {V : Type 0} (l k : Layout V) (laid : IsLaid l) where
-  -- a last stretch is set, behind the kept ones of its replica: each other one was there before
+  -- a last stretch is set, after the kept ones of its replica: each other one was there before
   set_cases : (f : StretchEntry V) → LatestBecomes l.0 k.0 f.0.replica (Some (f.0.counter, f.1))
       → ((x : StretchEntry V) → KeepsEntry k.1 x → x.0.replica ≡ f.0.replica → x.0.counter < f.0.counter)
       → ((x : StretchEntry V) → KeepsEntry k.1 x → Has l x) → (x : StretchEntry V) → Has k x → (x ≡ f) ⊎ ((x.0 ≢ f.0) × Has l x)
@@ -90,7 +90,7 @@ module _ {V : Type 0} (l k : Layout V) (laid : IsLaid l) where
         | inr a ↦ inr (becomes.others x.0 d ∙ a)
       ]
 
-  -- a last stretch is set, behind the kept ones of its replica: it is a new one, or that one has another end
+  -- a last stretch is set, after the kept ones of its replica: it is a new one, or that one has another end
   pub sets_latest : (f : StretchEntry V) → ((x : StretchEntry V) → IsLatest l.0 x → x.0.replica ≡ f.0.replica → x.0 ≡ f.0)
       → ((x : StretchEntry V) → KeepsEntry l.1 x → x.0.replica ≡ f.0.replica → x.0.counter < f.0.counter)
       → LatestBecomes l.0 k.0 f.0.replica (Some (f.0.counter, f.1)) → k.1 ≡ l.1 → Sets l k f
@@ -147,9 +147,9 @@ module _ {V : Type 0} (l k : Layout V) (laid : IsLaid l) where
       }
 
   -- another stretch is the last one of a replica, and the one before it is kept
-  pub sets_behind : (e f : StretchEntry V) → IsLatest l.0 e → e.0.replica ≡ f.0.replica → e.0.counter < f.0.counter → LatestBecomes l.0 k.0 f.0.replica (Some (f.0.counter, f.1))
+  pub sets_after : (e f : StretchEntry V) → IsLatest l.0 e → e.0.replica ≡ f.0.replica → e.0.counter < f.0.counter → LatestBecomes l.0 k.0 f.0.replica (Some (f.0.counter, f.1))
       → KeptBecomes l.1 k.1 e.0 (Some e.1) → Sets l k f
-  sets_behind e f old rep less becomes keeps =
+  sets_after e f old rep less becomes keeps =
       let kept_before : (x : StretchEntry V) → KeepsEntry k.1 x → x.0.replica ≡ f.0.replica → x.0.counter < f.0.counter = λ x h r.
       elim (kept_cases l.1 k.1 e keeps x h) [
         | inl d ↦ subst (λ (z : StretchEntry V). z.0.counter < f.0.counter) (sym d) less

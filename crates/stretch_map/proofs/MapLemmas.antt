@@ -5,13 +5,13 @@ use Rattle.std.specs.FinMap.{FinMap, get, get-from_entries, get-insert, get-remo
 use Rattle.std.specs.Ordering.{is_eq}
 use Rattle.fugue_ids.specs.Identifiers.{Identifier, id_cmp}
 use Rattle.fugue_ids.proofs.IdentifierLemmas.{cases_id, id_at-other, id_at-same}
-use Rattle.fugue_ids.proofs.RunLemmas.{none_behind}
+use Rattle.fugue_ids.proofs.RunLemmas.{none_after}
 use Rattle.stretch_map.specs.Contents.{StretchEntry, Layout, entries_with, contents, spread, value_in}
 use Rattle.stretch_map.specs.Rules.{AreFree, IsFollowedBy, ReachesRun, with_run}
 use Rattle.stretch_map.specs.Stretches.{Adds, AreFreeTo, AreStretches, CanCome, EndsAt, IsAmong, IsSame, Loses}
 use Rattle.stretch_map.proofs.FoundLemmas.{cases_covers, cases_le, covered}
 use Rattle.fugue_ids.proofs.OrderLemmas.{id_cmp-IsAntisymmetric, id_cmp_total}
-use Rattle.fugue_ids.specs.Runs.{id_behind}
+use Rattle.fugue_ids.specs.Runs.{id_after}
 
 -- identifiers are free where all of them are among those that are
 pub all_free : {V : Type 0} (value_of : Identifier → Option V) (first : Identifier) (count last : ℕ) → 0 < count → last ≡ first.counter + (count - 1)
@@ -21,17 +21,17 @@ all_free value_of first count last some is free q c =
     let from : first.counter ≤ q.counter = c.from in
     let to : q.counter ≤ last = c.to in
     let there : first.counter + (q.counter - first.counter) ≡ q.counter = omega (arith, from) in
-    let same : id_behind first (q.counter - first.counter) ≡ q = λ i. record { replica = c.replica i; counter = there i } in
+    let same : id_after first (q.counter - first.counter) ≡ q = λ i. record { replica = c.replica i; counter = there i } in
     sym (ap value_of same) ∙ free (q.counter - first.counter) (omega (arith, from, to, is, some))
 
 -- and the other way round
 pub free_all : {V : Type 0} (value_of : Identifier → Option V) (first : Identifier) (count last : ℕ) → last ≡ first.counter + (count - 1)
     → ((q : Identifier) → IsAmong first last q → value_of q ≡ None) → AreFree value_of first count
-free_all value_of first count last is free k less = free (id_behind first k) (record { replica = refl; from = omega arith; to = omega (arith, less, is) })
+free_all value_of first count last is free k less = free (id_after first k) (record { replica = refl; from = omega arith; to = omega (arith, less, is) })
 
 -- one identifier is free where it has no value
 pub only_first : {V : Type 0} (value_of : Identifier → Option V) (key : Identifier) → value_of key ≡ None → AreFree value_of key 1
-only_first value_of key none zero less = ap value_of (none_behind key) ∙ none
+only_first value_of key none zero less = ap value_of (none_after key) ∙ none
 only_first value_of key none (suc k) less = absurd (omega (arith, less))
 
 -- and the rule reaches to one value
@@ -68,16 +68,16 @@ module _ {V : Type 0} (nth : Identifier → V → ℕ → V) where
   run_inside first v zero m q r from to = absurd (omega (arith, from, to))
   run_inside first v (suc n) m q r from to =
       let older : FinMap id_cmp V = with_run nth first v n m in
-      get-insert id_cmp_total older (id_behind first n) (nth first v n) q
-      ∙ elim (cases_id q (id_behind first n)) [
+      get-insert id_cmp_total older (id_after first n) (nth first v n) q
+      ∙ elim (cases_id q (id_after first n)) [
         | inl e ↦
             let there : q.counter ≡ first.counter + n = ap (λ (x : Identifier). x.counter) e in
             let steps : n ≡ q.counter - first.counter = omega (arith, there) in
-            ap (λ b. cond b (Some (nth first v n)) (get older q)) (ap (λ z. is_eq (id_cmp z (id_behind first n))) e ∙ id_at-same (id_behind first n))
+            ap (λ b. cond b (Some (nth first v n)) (get older q)) (ap (λ z. is_eq (id_cmp z (id_after first n))) e ∙ id_at-same (id_after first n))
             ∙ ap (λ k. Some (nth first v k)) steps
         | inr d ↦
             let apart : q.counter ≢ first.counter + n = λ e. d (λ i. record { replica = sym r i; counter = e i }) in
-            ap (λ b. cond b (Some (nth first v n)) (get older q)) (id_at-other q (id_behind first n) (λ e. d (sym e))) ∙ run_inside first v n m q r from (omega (arith, apart, to))
+            ap (λ b. cond b (Some (nth first v n)) (get older q)) (id_at-other q (id_after first n) (λ e. d (sym e))) ∙ run_inside first v n m q r from (omega (arith, apart, to))
       ]
 
   -- and every other value stays
@@ -87,11 +87,11 @@ module _ {V : Type 0} (nth : Identifier → V → ℕ → V) where
   run_outside first v zero m q out = refl
   run_outside first v (suc n) m q out =
       let older : FinMap id_cmp V = with_run nth first v n m in
-      let other : id_behind first n ≢ q = λ e.
+      let other : id_after first n ≢ q = λ e.
       let there : first.counter + n ≡ q.counter = ap (λ (x : Identifier). x.counter) e in
       out (ap (λ (x : Identifier). x.replica) e) (omega (arith, there)) (omega (arith, there))
       in
-      get-insert id_cmp_total older (id_behind first n) (nth first v n) q ∙ ap (λ b. cond b (Some (nth first v n)) (get older q)) (id_at-other q (id_behind first n) other)
+      get-insert id_cmp_total older (id_after first n) (nth first v n) q ∙ ap (λ b. cond b (Some (nth first v n)) (get older q)) (id_at-other q (id_after first n) other)
       ∙ run_outside first v n m q (λ r from to. out r from (omega (arith, to)))
 
   -- a run more
@@ -113,7 +113,7 @@ module _ {V : Type 0} (nth : Identifier → V → ℕ → V) where
 
   -- a run of one is one value
   pub run_of_one : ((first : Identifier) (v : V) → nth first v 0 ≡ v) → (key : Identifier) (v : V) (m : FinMap id_cmp V) → with_run nth key v 1 m ≡ insert m key v
-  run_of_one at_start key v m = λ i. insert m (none_behind key i) (at_start key v i)
+  run_of_one at_start key v m = λ i. insert m (none_after key i) (at_start key v i)
 
   -- a run may come where its identifiers are free
   pub can_come : (reaches : Identifier → V → ℕ → Type 0) (l : Layout V) (value_of : Identifier → Option V) → ((q : Identifier) → value_of q ≡ value_in nth l q)
@@ -136,7 +136,7 @@ module _ {V : Type 0} (nth : Identifier → V → ℕ → V) where
 
   -- where the next identifier has not the value that follows, a stretch ends with the key
   pub ends_unless_followed : (reaches : Identifier → V → ℕ → Type 0)
-      → ((first : Identifier) (value : V) (j k : ℕ) → nth (id_behind first j) (nth first value j) k ≡ nth first value (j + k))
+      → ((first : Identifier) (value : V) (j k : ℕ) → nth (id_after first j) (nth first value j) k ≡ nth first value (j + k))
       → (l : Layout V) → AreStretches reaches l → (key : Identifier) → (IsFollowedBy nth (value_in nth l) key → ⊥) → EndsAt l key
   ends_unless_followed reaches adds l are key not e has cover =
       elim (cases_le e.1.last key.counter) [
@@ -145,9 +145,9 @@ module _ {V : Type 0} (nth : Identifier → V → ℕ → V) where
             let from : e.0.counter ≤ key.counter = cover.from in
             let j : ℕ = key.counter - e.0.counter in
             let steps : key.counter + 1 - e.0.counter ≡ key.counter - e.0.counter + 1 = omega arith in
-            let there : id_behind e.0 (key.counter - e.0.counter) ≡ key = let c : e.0.counter + (key.counter - e.0.counter) ≡ key.counter =
+            let there : id_after e.0 (key.counter - e.0.counter) ≡ key = let c : e.0.counter + (key.counter - e.0.counter) ≡ key.counter =
             omega arith in λ i. record { replica = cover.replica i; counter = c i } in
-            let next = covered nth reaches l are (id_behind key 1) e has (record { replica = cover.replica; from = omega arith; to = omega arith }) in
+            let next = covered nth reaches l are (id_after key 1) e has (record { replica = cover.replica; from = omega arith; to = omega arith }) in
             absurd (not (record {
               value = nth e.0 e.1.value (key.counter - e.0.counter);
               held = covered nth reaches l are key e has cover;

@@ -2,19 +2,19 @@
 use Rattle.std.proofs.Common.{ap, arith, inl, inr, refl, subst, sym, ℕ, ◌+◌, ◌-◌, ◌<◌, ◌∙◌, ◌≡◌, ◌≢◌, ◌≤◌}
 use Rattle.fugue_ids.specs.Identifiers.{Identifier}
 use Rattle.fugue_ids.proofs.IdentifierLemmas.{cases_id}
-use Rattle.fugue_ids.specs.Runs.{id_behind}
+use Rattle.fugue_ids.specs.Runs.{id_after}
 use Rattle.stretch_map.specs.Contents.{StretchEntry, Layout, value_in}
-use Rattle.stretch_map.specs.Stretches.{AreStretches, Covers, Has, IsReachedByRule, rest_behind, up_to}
+use Rattle.stretch_map.specs.Stretches.{AreStretches, Covers, Has, IsReachedByRule, tail_from, up_to}
 use Rattle.stretch_map.proofs.FoundLemmas.{cases_le, same_has}
 use Rattle.stretch_map.proofs.LessenedLemmas.{Splits}
 use Rattle.stretch_map.proofs.SetLemmas.{value_stays}
 use Rattle.fugue_ids.proofs.OptionLemmas.{cases_number}
 
 module _ {V : Type 0} (nth : Identifier → V → ℕ → V) (reaches : Identifier → V → ℕ → Type 0)
-    (adds : (first : Identifier) (value : V) (j k : ℕ) → nth (id_behind first j) (nth first value j) k ≡ nth first value (j + k))
-    (goes_on : (first : Identifier) (value : V) (j k : ℕ) → reaches first value (j + k) → reaches (id_behind first j) (nth first value j) k)
+    (adds : (first : Identifier) (value : V) (j k : ℕ) → nth (id_after first j) (nth first value j) k ≡ nth first value (j + k))
+    (goes_on : (first : Identifier) (value : V) (j k : ℕ) → reaches first value (j + k) → reaches (id_after first j) (nth first value j) k)
     (l k : Layout V) (are : AreStretches reaches l) (e : StretchEntry V) (old : Has l e) (j : ℕ) (some : 0 < j) (within : e.0.counter + j ≤ e.1.last)
-    (splits : Splits l k (up_to e (e.0.counter + j - 1)) (rest_behind nth e j)) where
+    (splits : Splits l k (up_to e (e.0.counter + j - 1)) (tail_from nth e j)) where
   parted_apart : (a b : StretchEntry V) → Has k a → Has k b → a.0.replica ≡ b.0.replica → a.0.counter < b.0.counter → a.1.last < b.0.counter
   parted_apart a b ka kb r less =
       elim (splits.cases a ka) [
@@ -110,7 +110,7 @@ module _ {V : Type 0} (nth : Identifier → V → ℕ → V) (reaches : Identifi
       elim (cases_le (e.0.counter + j) q.counter) [
         | inl behind ↦
             let steps : j + (q.counter - (e.0.counter + j)) ≡ q.counter - e.0.counter = omega arith in (
-              rest_behind nth e j,
+              tail_from nth e j,
               splits.tail,
               record { replica = cover.replica; from = behind; to = high },
               adds e.0 e.1.value j (q.counter - (e.0.counter + j)) ∙ ap (nth e.0 e.1.value) steps,
@@ -132,7 +132,7 @@ module _ {V : Type 0} (nth : Identifier → V → ℕ → V) (reaches : Identifi
         | inr d ↦
             elim d [
               | inl i ↦
-                  let cover : Covers (rest_behind nth e j) q = subst (λ (z : StretchEntry V). Covers z q) i c in
+                  let cover : Covers (tail_from nth e j) q = subst (λ (z : StretchEntry V). Covers z q) i c in
                   let low : e.0.counter + j ≤ q.counter = cover.from in
                   (e, old, record { replica = cover.replica; from = omega arith; to = cover.to })
               | inr i ↦ (x, i.2, c)
@@ -145,7 +145,7 @@ module _ {V : Type 0} (nth : Identifier → V → ℕ → V) (reaches : Identifi
             let there = parted_own q (subst (λ (z : StretchEntry V). Covers z q) (λ i. (d i, value i)) c) in
             (there.0, there.1, there.2, there.3 ∙ (λ i. nth (sym d i) (sym value i).value (q.counter - (sym d i).counter)))
         | inr d ↦
-            let not_rest : x.0 ≢ id_behind e.0 j = λ i.
+            let not_rest : x.0 ≢ id_after e.0 j = λ i.
             let there : x.0.counter ≡ e.0.counter + j = ap (λ (z : Identifier). z.counter) i in
             let rep : e.0.replica ≡ x.0.replica = sym (ap (λ (z : Identifier). z.replica) i) in
             let far : e.1.last < x.0.counter = are.apart e x old h rep (omega (arith, some, there)) in

@@ -3,15 +3,15 @@ use Rattle.std.proofs.Common.{ap, arith, inl, inr, refl, subst, sym, List, ℕ, 
 use Rattle.std.specs.Prelude.{None, Some}
 use Rattle.std.specs.BTreeMap.{BTreeMap, IsOrdered, UpdatesBy}
 use Rattle.fugue_ids.specs.Identifiers.{Identifier, id_cmp}
-use Rattle.fugue_ids.specs.Runs.{id_behind}
+use Rattle.fugue_ids.specs.Runs.{id_after}
 use Rattle.stretch_map.specs.Contents.{StretchEntry, Latest, Layout, value_in}
 use Rattle.stretch_map.specs.Rules.{FollowsByRule}
-use Rattle.stretch_map.specs.Stretches.{Adds, AreStretches, CanCome, GoesOn, Grows, Has, IsBehindAll, IsFloor, IsLatest, IsLatestUpTo, KeepsEntry, KeptBecomes, LatestBecomes}
+use Rattle.stretch_map.specs.Stretches.{Adds, AreStretches, CanCome, GoesOn, Grows, Has, IsAfterAll, IsFloor, IsLatest, IsLatestUpTo, KeepsEntry, KeptBecomes, LatestBecomes}
 use Rattle.stretch_map.specs.Stretches.{NoLatestUpTo, latest_at, up_to}
 use Rattle.stretch_map.specs.declared.stretches.Stretch.{Stretch}
 use Rattle.stretch_map.proofs.FoundLemmas.{cases_le, found, same_latest}
 use Rattle.stretch_map.proofs.GrownLemmas.{added, first_not_in, joined}
-use Rattle.stretch_map.proofs.KeptLemmas.{kept_becomes, sets_behind, sets_kept, sets_latest}
+use Rattle.stretch_map.proofs.KeptLemmas.{kept_becomes, sets_after, sets_kept, sets_latest}
 
 module _ {V : Type 0} (nth : Identifier → V → ℕ → V) (reaches : Identifier → V → ℕ → Type 0) (l : Layout V) (are : AreStretches reaches l) (run : StretchEntry V)
     (comes : CanCome nth reaches l run) where
@@ -21,9 +21,9 @@ module _ {V : Type 0} (nth : Identifier → V → ℕ → V) (reaches : Identifi
   abbrev value : V
   value = run.1.value
 
-  module _ (joins : (first : Identifier) (v : V) (j : ℕ) → reaches first v j → reaches (id_behind first j) (nth first v j) 1 → reaches first v (j + 1))
-      (adds : (first : Identifier) (v : V) (j k : ℕ) → nth (id_behind first j) (nth first v j) k ≡ nth first v (j + k))
-      (goes_on : (first : Identifier) (v : V) (j k : ℕ) → reaches first v (j + k) → reaches (id_behind first j) (nth first v j) k) where
+  module _ (joins : (first : Identifier) (v : V) (j : ℕ) → reaches first v j → reaches (id_after first j) (nth first v j) 1 → reaches first v (j + 1))
+      (adds : (first : Identifier) (v : V) (j k : ℕ) → nth (id_after first j) (nth first v j) k ≡ nth first v (j + k))
+      (goes_on : (first : Identifier) (v : V) (j k : ℕ) → reaches first v (j + k) → reaches (id_after first j) (nth first v j) k) where
     -- the last stretch of the replica goes on
     pub latest_grew : (e : StretchEntry V) → IsLatest l.0 e → GoesOn nth reaches e key value → (s : Stretch V) → s ≡ (up_to e run.1.last).1 → (ls : List (ℕ × Latest V))
         → LatestBecomes l.0 ls e.0.replica (Some (e.0.counter, s)) → Adds nth reaches l (ls, l.1) run
@@ -50,7 +50,7 @@ module _ {V : Type 0} (nth : Identifier → V → ℕ → V) (reaches : Identifi
       ]
 
   -- the new stretch is the only last one of its replica
-  pub begun_first : IsBehindAll l key → (ls : List (ℕ × Latest V)) → LatestBecomes l.0 ls key.replica (Some (key.counter, run.1)) → Adds nth reaches l (ls, l.1) run
+  pub begun_first : IsAfterAll l key → (ls : List (ℕ × Latest V)) → LatestBecomes l.0 ls key.replica (Some (key.counter, run.1)) → Adds nth reaches l (ls, l.1) run
   begun_first behind ls becomes =
       added nth reaches l are run comes (ls, l.1)
       (sets_latest l (ls, l.1) are.laid run
@@ -60,16 +60,16 @@ module _ {V : Type 0} (nth : Identifier → V → ℕ → V) (reaches : Identifi
   pub begun_kept : NoLatestUpTo l.0 key → (es : List (StretchEntry V)) → KeptBecomes l.1 es key (Some run.1) → Adds nth reaches l (l.0, es) run
   begun_kept none es becomes = added nth reaches l are run comes (l.0, es) (sets_kept l (l.0, es) are.laid run (λ x a r. none x a (sym r)) becomes refl)
 
-  -- and behind it
-  pub begun_behind : (e : StretchEntry V) → IsLatestUpTo l.0 key e → (ls : List (ℕ × Latest V)) (es : List (StretchEntry V))
+  -- and after it
+  pub begun_after : (e : StretchEntry V) → IsLatestUpTo l.0 key e → (ls : List (ℕ × Latest V)) (es : List (StretchEntry V))
       → LatestBecomes l.0 ls key.replica (Some (key.counter, run.1))
       → KeptBecomes l.1 es e.0 (Some e.1) → Adds nth reaches l (ls, es) run
-  begun_behind e is ls es becomes keeps =
-      added nth reaches l are run comes (ls, es) (sets_behind l (ls, es) are.laid e run is.latest is.replica (begins_before e is) becomes keeps)
+  begun_after e is ls es becomes keeps =
+      added nth reaches l are run comes (ls, es) (sets_after l (ls, es) are.laid e run is.latest is.replica (begins_before e is) becomes keeps)
 
   -- the stretch of the identifier before is one that goes on
-  goes_from : (joins : (first : Identifier) (v : V) (j : ℕ) → reaches first v j → reaches (id_behind first j) (nth first v j) 1 → reaches first v (j + 1))
-      → (adds : (first : Identifier) (v : V) (j k : ℕ) → nth (id_behind first j) (nth first v j) k ≡ nth first v (j + k))
+  goes_from : (joins : (first : Identifier) (v : V) (j : ℕ) → reaches first v j → reaches (id_after first j) (nth first v j) 1 → reaches first v (j + 1))
+      → (adds : (first : Identifier) (v : V) (j k : ℕ) → nth (id_after first j) (nth first v j) k ≡ nth first v (j + k))
       → FollowsByRule nth reaches (value_in nth l) key value → (e : StretchEntry V) × Has l e × GoesOn nth reaches e key value
   goes_from joins adds next =
       elim (found nth reaches l are next.before) [
@@ -86,7 +86,7 @@ module _ {V : Type 0} (nth : Identifier → V → ℕ → V) (reaches : Identifi
             ] in
             let steps : ℕ = next.before.counter - e.0.counter in
             let far : steps + 1 ≡ key.counter - e.0.counter = omega arith in
-            let there : id_behind e.0 steps ≡ next.before = let c : e.0.counter + steps ≡ next.before.counter =
+            let there : id_after e.0 steps ≡ next.before = let c : e.0.counter + steps ≡ next.before.counter =
             omega arith in λ i. record { replica = w.2.replica i; counter = c i } in
             let value_there : nth e.0 e.1.value steps ≡ next.value_before = let both : Some (nth e.0 e.1.value steps) ≡ Some next.value_before = sym w.3 ∙ next.held in cc in (
               e,
@@ -128,8 +128,8 @@ module _ {V : Type 0} (nth : Identifier → V → ℕ → V) (reaches : Identifi
             ];
       }
 
-  module _ (joins : (first : Identifier) (v : V) (j : ℕ) → reaches first v j → reaches (id_behind first j) (nth first v j) 1 → reaches first v (j + 1))
-      (adds : (first : Identifier) (v : V) (j k : ℕ) → nth (id_behind first j) (nth first v j) k ≡ nth first v (j + k)) where
+  module _ (joins : (first : Identifier) (v : V) (j : ℕ) → reaches first v j → reaches (id_after first j) (nth first v j) 1 → reaches first v (j + 1))
+      (adds : (first : Identifier) (v : V) (j k : ℕ) → nth (id_after first j) (nth first v j) k ≡ nth first v (j + k)) where
     -- where no kept stretch goes on, nor a last one can, the value does not follow
     pub not_next_before : NoLatestUpTo l.0 key → ((e : StretchEntry V) → IsFloor l.1 key e → GoesOn nth reaches e key value → ⊥)
         → FollowsByRule nth reaches (value_in nth l) key value → ⊥
@@ -145,8 +145,8 @@ module _ {V : Type 0} (nth : Identifier → V → ℕ → V) (reaches : Identifi
         ]
 
     -- where the last one does not go on, nor a kept one can, it does not follow
-    pub not_next_behind : (e : StretchEntry V) → IsLatestUpTo l.0 key e → (GoesOn nth reaches e key value → ⊥) → FollowsByRule nth reaches (value_in nth l) key value → ⊥
-    not_next_behind e is not next =
+    pub not_next_after : (e : StretchEntry V) → IsLatestUpTo l.0 key e → (GoesOn nth reaches e key value → ⊥) → FollowsByRule nth reaches (value_in nth l) key value → ⊥
+    not_next_after e is not next =
         let x = goes_from joins adds next in
         let r : x.0.0.replica ≡ e.0.replica = x.2.replica ∙ sym is.replica in
         elim x.1 [

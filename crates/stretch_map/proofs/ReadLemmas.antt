@@ -68,9 +68,9 @@ module _ {V : Type 0} (nth : Identifier → V → ℕ → V) (reaches : Identifi
       read nth reaches l are key None (record { none = λ f h c. v.0 (subst (λ (z : StretchEntry V). Covers z key) (latest_covers e is f h c) c); some = tt })
   value_latest e is (Some a) v = read nth reaches l are key (Some a) (record { none = tt; some = (e, inl is.latest, v.1.0, v.1.1) })
 
-  -- a last stretch that begins behind the key does not have it
-  pub latest_behind : NoLatestUpTo l.0 key → (e : StretchEntry V) → IsLatest l.0 e → Covers e key → ⊥
-  latest_behind none e a c = let from : e.0.counter ≤ key.counter = c.from in let over : key.counter < e.0.counter = none e a c.replica in absurd (omega arith)
+  -- a last stretch that begins after the key does not have it
+  pub latest_after : NoLatestUpTo l.0 key → (e : StretchEntry V) → IsLatest l.0 e → Covers e key → ⊥
+  latest_after none e a c = let from : e.0.counter ≤ key.counter = c.from in let over : key.counter < e.0.counter = none e a c.replica in absurd (omega arith)
 
   -- where no last stretch has the key, the value is that of a kept one
   pub value_kept : (r : Option V) → ((e : StretchEntry V) → IsLatest l.0 e → Covers e key → ⊥) → IsReadIn nth (KeepsEntry l.1) key r → r ≡ value_in nth l key

@@ -5,10 +5,10 @@ use Rattle.std.specs.BTreeMap.{BTreeMap, IsOrdered, UpdatesBy}
 use Rattle.std.specs.Ordering.{is_eq}
 use Rattle.fugue_ids.specs.Identifiers.{Identifier, id_cmp}
 use Rattle.fugue_ids.proofs.IdentifierLemmas.{cases_id, id_at-other}
-use Rattle.fugue_ids.specs.Runs.{id_behind}
+use Rattle.fugue_ids.specs.Runs.{id_after}
 use Rattle.stretch_map.specs.Contents.{StretchEntry, Latest, Layout}
-use Rattle.stretch_map.specs.Stretches.{AreStretches, Covers, IsSplit, IsFloor, IsLatest, IsLatestUpTo, IsSplitBehind, IsReadIn, IsSame, IsShorter, IsTakenFrom, IsTakenFromLatest}
-use Rattle.stretch_map.specs.Stretches.{KeepsEntry, KeptBecomes, LatestBecomes, Loses, rest_behind, up_to}
+use Rattle.stretch_map.specs.Stretches.{AreStretches, Covers, IsSplit, IsFloor, IsLatest, IsLatestUpTo, IsSplitAfter, IsReadIn, IsSame, IsShorter, IsTakenFrom, IsTakenFromLatest}
+use Rattle.stretch_map.specs.Stretches.{KeepsEntry, KeptBecomes, LatestBecomes, Loses, tail_from, up_to}
 use Rattle.stretch_map.specs.declared.stretches.Stretch.{Stretch}
 use Rattle.stretch_map.proofs.FoundLemmas.{not_both, one_covers, same_kept, same_latest}
 use Rattle.stretch_map.proofs.KeptLemmas.{drops_kept, drops_latest, kept_becomes, sets_kept, sets_latest}
@@ -18,10 +18,10 @@ use Rattle.stretch_map.proofs.ReadLemmas.{floor_covers, value_kept}
 
 -- what two changes of a map make of a stretch
 pub cut_by : {V : Type 0} (nth : Identifier → V → ℕ → V) (m k n : BTreeMap Identifier (Stretch V)) (e : StretchEntry V) (key : Identifier) → Covers e key
-    → UpdatesBy id_cmp (id_cmp (rest_behind nth e (key.counter - e.0.counter + 1)).0) m k (Some (rest_behind nth e (key.counter - e.0.counter + 1)).1)
+    → UpdatesBy id_cmp (id_cmp (tail_from nth e (key.counter - e.0.counter + 1)).0) m k (Some (tail_from nth e (key.counter - e.0.counter + 1)).1)
     → UpdatesBy id_cmp (id_cmp e.0) k n (Some (up_to e key.counter).1) → IsOrdered id_cmp n → IsSplit nth m.entries n.entries e key
 cut_by nth m k n e key cover u w ordered =
-    let g : Identifier = id_behind e.0 (key.counter - e.0.counter + 1) in
+    let g : Identifier = id_after e.0 (key.counter - e.0.counter + 1) in
     let apart : g ≢ e.0 = λ d. let same : e.0.counter + (key.counter - e.0.counter + 1) ≡ e.0.counter = ap (λ (x : Identifier). x.counter) d in absurd (omega arith) in
     record {
       head = w.1;
@@ -57,17 +57,17 @@ module _ {V : Type 0} (nth : Identifier → V → ℕ → V) (reaches : Identifi
           (subst (λ (z : StretchEntry V). KeptBecomes l.1 es e.0 (Some z.1)) short.1.1 becomes) refl)
 
   -- a stretch that ends with the key already
-  pub parted_there : (e : StretchEntry V) → KeepsEntry l.1 e → Covers e key → e.1.last ≤ key.counter → IsSplitBehind nth reaches l l e key
+  pub parted_there : (e : StretchEntry V) → KeepsEntry l.1 e → Covers e key → e.1.last ≤ key.counter → IsSplitAfter nth reaches l l e key
   parted_there e kept cover low =
       let to : key.counter ≤ e.1.last = cover.to in
       let same : e.1.last ≡ key.counter = omega arith in
       record { are = are; found = λ q. refl; head = kept ∙ ap (λ c. Some (up_to e c).1) same }
 
   -- a kept stretch cut in two
-  pub parted_kept : ((first : Identifier) (value : V) (j k : ℕ) → nth (id_behind first j) (nth first value j) k ≡ nth first value (j + k))
-      → ((first : Identifier) (value : V) (j k : ℕ) → reaches first value (j + k) → reaches (id_behind first j) (nth first value j) k)
+  pub parted_kept : ((first : Identifier) (value : V) (j k : ℕ) → nth (id_after first j) (nth first value j) k ≡ nth first value (j + k))
+      → ((first : Identifier) (value : V) (j k : ℕ) → reaches first value (j + k) → reaches (id_after first j) (nth first value j) k)
       → (e : StretchEntry V) → KeepsEntry l.1 e → Covers e key → key.counter < e.1.last → (es : List (StretchEntry V)) → IsSplit nth l.1 es e key
-      → IsSplitBehind nth reaches l (l.0, es) e key
+      → IsSplitAfter nth reaches l (l.0, es) e key
   parted_kept adds goes_on e old cover inside es cut =
       record {
         are = parted_are nth reaches adds goes_on l (l.0, es) are e (inr old) (key.counter - e.0.counter + 1) (omega arith) within splits;
@@ -82,24 +82,24 @@ module _ {V : Type 0} (nth : Identifier → V → ℕ → V) (reaches : Identifi
       same_head = let from : e.0.counter ≤ key.counter = cover.from in let c : key.counter ≡ e.0.counter + (key.counter - e.0.counter + 1) - 1 = omega arith in ap (up_to e) c
 
       -- a last stretch begins elsewhere than the rest
-      not_rest : (x : StretchEntry V) → IsLatest l.0 x → x.0 ≢ id_behind e.0 (key.counter - e.0.counter + 1)
+      not_rest : (x : StretchEntry V) → IsLatest l.0 x → x.0 ≢ id_after e.0 (key.counter - e.0.counter + 1)
       not_rest x a d =
           let begun : x.0.counter ≤ x.1.last = are.begun x (inl a) in
           let there : e.0.counter + (key.counter - e.0.counter + 1) ≤ e.1.last = within in
-          let own : Covers x (id_behind e.0 (key.counter - e.0.counter + 1)) = subst (Covers x) d (record { replica = refl; from = omega arith; to = begun }) in
-          let rest : Covers e (id_behind e.0 (key.counter - e.0.counter + 1)) = record { replica = refl; from = omega arith; to = there } in
-          not_both l are.laid x e a old (sym (one_covers nth reaches l are (id_behind e.0 (key.counter - e.0.counter + 1)) x e (inl a) (inr old) own rest))
+          let own : Covers x (id_after e.0 (key.counter - e.0.counter + 1)) = subst (Covers x) d (record { replica = refl; from = omega arith; to = begun }) in
+          let rest : Covers e (id_after e.0 (key.counter - e.0.counter + 1)) = record { replica = refl; from = omega arith; to = there } in
+          not_both l are.laid x e a old (sym (one_covers nth reaches l are (id_after e.0 (key.counter - e.0.counter + 1)) x e (inl a) (inr old) own rest))
 
       -- a kept stretch after the cut is one of both parts, or was kept
       kept_parts : (x : StretchEntry V) → KeepsEntry es x
           → (x ≡ up_to e key.counter)
-          ⊎ ((x ≡ rest_behind nth e (key.counter - e.0.counter + 1)) ⊎ ((x.0 ≢ e.0) × (x.0 ≢ id_behind e.0 (key.counter - e.0.counter + 1)) × KeepsEntry l.1 x))
+          ⊎ ((x ≡ tail_from nth e (key.counter - e.0.counter + 1)) ⊎ ((x.0 ≢ e.0) × (x.0 ≢ id_after e.0 (key.counter - e.0.counter + 1)) × KeepsEntry l.1 x))
       kept_parts x a =
           elim (cases_id x.0 e.0) [
             | inl d ↦ let value = same_kept es x (up_to e key.counter) a cut.head d in inl (λ i. (d i, value i))
             | inr d ↦
-                elim (cases_id x.0 (id_behind e.0 (key.counter - e.0.counter + 1))) [
-                  | inl f ↦ let value = same_kept es x (rest_behind nth e (key.counter - e.0.counter + 1)) a cut.tail f in inr (inl (λ i. (f i, value i)))
+                elim (cases_id x.0 (id_after e.0 (key.counter - e.0.counter + 1))) [
+                  | inl f ↦ let value = same_kept es x (tail_from nth e (key.counter - e.0.counter + 1)) a cut.tail f in inr (inl (λ i. (f i, value i)))
                   | inr f ↦ inr (inr (d, f, sym (cut.others x.0 d f) ∙ a))
                 ]
           ]
@@ -123,7 +123,7 @@ module _ {V : Type 0} (nth : Identifier → V → ℕ → V) (reaches : Identifi
                 ]
           ]
 
-      splits : Splits l (l.0, es) (up_to e (e.0.counter + (key.counter - e.0.counter + 1) - 1)) (rest_behind nth e (key.counter - e.0.counter + 1))
+      splits : Splits l (l.0, es) (up_to e (e.0.counter + (key.counter - e.0.counter + 1) - 1)) (tail_from nth e (key.counter - e.0.counter + 1))
       splits =
           record {
             head = inr (subst (λ (z : StretchEntry V). KeepsEntry es z) same_head cut.head);
@@ -140,7 +140,7 @@ module _ {V : Type 0} (nth : Identifier → V → ℕ → V) (reaches : Identifi
           }
 
   -- a stretch cut in two, and then its last value gone
-  pub loses_after : (k t : Layout V) (e : StretchEntry V) → IsSplitBehind nth reaches l k e key → Loses nth reaches k t key → Loses nth reaches l t key
+  pub loses_after : (k t : Layout V) (e : StretchEntry V) → IsSplitAfter nth reaches l k e key → Loses nth reaches k t key → Loses nth reaches l t key
   loses_after k t e cut lost = record { are = lost.are; found = λ q. lost.found q ∙ ap (cond (is_eq (id_cmp q key)) None) (cut.found q) }
 
   -- the same after stretches were kept differently
@@ -162,7 +162,7 @@ module _ {V : Type 0} (nth : Identifier → V → ℕ → V) (reaches : Identifi
 -- a kept stretch cut in two, and then its last value taken
 pub taken_after : {V : Type 0} (nth : Identifier → V → ℕ → V) (reaches : Identifier → V → ℕ → Type 0) (l : Layout V) → AreStretches reaches l
     → (key : Identifier) (k : Layout V) (e : StretchEntry V)
-    → IsSplitBehind nth reaches l k e key → Covers e key → (es : List (StretchEntry V)) (last : ℕ) → last ≡ key.counter → IsTakenFrom k.1 es (up_to e last)
+    → IsSplitAfter nth reaches l k e key → Covers e key → (es : List (StretchEntry V)) (last : ℕ) → last ≡ key.counter → IsTakenFrom k.1 es (up_to e last)
     → Loses nth reaches l (k.0, es) key
 taken_after nth reaches l are key k e parted cover es last same taken =
     loses_after nth reaches l are key k (k.0, es) e parted

@@ -4,7 +4,7 @@ use Rattle.std.specs.Coded.{Coded, code_by, coded×, coded_ℕ, coded_option}
 use Rattle.std.specs.FinMap.{FinMap, code, find, from_entries}
 use Rattle.std.proofs.Common.{refl}
 use Rattle.fugue_ids.specs.Identifiers.{Identifier, id_cmp}
-use Rattle.fugue_ids.specs.Runs.{id_behind}
+use Rattle.fugue_ids.specs.Runs.{id_after}
 use Rattle.stretch_map.specs.declared.stretches.Stretch.{Stretch}
 use Rattle.stretch_map.specs.declared.stretches.Stretches.{Stretches}
 
@@ -27,7 +27,7 @@ coded_mapped {V} v =
 -- the first n values of a stretch, the last of them first
 abbrev pub run : {V : Type 0} → (Identifier → V → ℕ → V) → Identifier → V → ℕ → List (Identifier × V)
 run nth first v zero = []
-run nth first v (suc n) = (id_behind first n, nth first v n) ∷ run nth first v n
+run nth first v (suc n) = (id_after first n, nth first v n) ∷ run nth first v n
 
 -- the values of stretches
 abbrev pub spread : {V : Type 0} → (Identifier → V → ℕ → V) → List (Identifier × Stretch V) → List (Identifier × V)

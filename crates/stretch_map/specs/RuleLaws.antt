@@ -2,8 +2,8 @@
 use Rattle.std.specs.Prelude.{◌≡◌, ℕ, zero, suc, ◌+◌, ◌<◌, ◌^◌, Some, refl}
 use Rattle.std.proofs.Common.{ap, arith, sym, ◌∙◌}
 use Rattle.fugue_ids.specs.Identifiers.{Identifier}
-use Rattle.fugue_ids.specs.Runs.{id_behind}
-use Rattle.stretch_map.specs.Rules.{CanBeLater, later, typed_behind}
+use Rattle.fugue_ids.specs.Runs.{id_after}
+use Rattle.stretch_map.specs.Rules.{CanBeLater, later, typed_after}
 use Rattle.stretch_map.specs.declared.follows.Position.{Position}
 use Rattle.stretch_map.specs.declared.follows.Typed.{Typed}
 
@@ -28,23 +28,23 @@ pub later-joins : (p : Position) (j : ℕ) → CanBeLater p j → CanBeLater (la
 later-joins p j near far some = let one : p.at + j + 1 < 2 ^ 64 = far (omega arith) in omega (arith, one)
 
 -- no step changes nothing
-pub typed-start : (first : Identifier) (t : Typed) → typed_behind first t 0 ≡ t
+pub typed-start : (first : Identifier) (t : Typed) → typed_after first t 0 ≡ t
 typed-start first t = refl
 
--- the origins behind at least one step
+-- the origins after at least one step
 behind-suc : (first : Identifier) (t : Typed) (n m : ℕ) → n ≡ suc m
-    → typed_behind first t n ≡ record { left = Some (id_behind first m); right = t.right }
-behind-suc first t n m e = ap (typed_behind first t) e
+    → typed_after first t n ≡ record { left = Some (id_after first m); right = t.right }
+behind-suc first t n m e = ap (typed_after first t) e
 
 -- steps of identifiers add up
-behind-behind : (first : Identifier) (j k : ℕ) → id_behind (id_behind first j) k ≡ id_behind first (j + k)
+behind-behind : (first : Identifier) (j k : ℕ) → id_after (id_after first j) k ≡ id_after first (j + k)
 behind-behind first j k = let e : first.counter + j + k ≡ first.counter + (j + k) =
     omega arith in λ i. record { replica = first.replica; counter = e i }
 
 -- steps add up
 pub typed-adds : (first : Identifier) (t : Typed) (j k : ℕ)
-    → typed_behind (id_behind first j) (typed_behind first t j) k ≡ typed_behind first t (j + k)
-typed-adds first t j zero = let e : j ≡ j + 0 = omega arith in ap (typed_behind first t) e
+    → typed_after (id_after first j) (typed_after first t j) k ≡ typed_after first t (j + k)
+typed-adds first t j zero = let e : j ≡ j + 0 = omega arith in ap (typed_after first t) e
 typed-adds first t j (suc k) =
     let step : j + suc k ≡ suc (j + k) = omega arith in
     (λ i. record { left = Some (behind-behind first j k i); right = t.right }) ∙ sym (behind-suc first t (j + suc k) (j + k) step)

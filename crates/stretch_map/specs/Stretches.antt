@@ -6,7 +6,7 @@ use Rattle.std.specs.List.Sorted.{IsStrictlySortedBy}
 use Rattle.std.specs.Map.{keys_of, lookup}
 use Rattle.std.specs.Ordering.{is_eq, nat_cmp}
 use Rattle.fugue_ids.specs.Identifiers.{Identifier, IsAtMost, id_cmp}
-use Rattle.fugue_ids.specs.Runs.{id_behind}
+use Rattle.fugue_ids.specs.Runs.{id_after}
 use Rattle.stretch_map.specs.Contents.{StretchEntry, Latest, Layout, value_in}
 use Rattle.stretch_map.specs.Rules.{FollowsByRule}
 use Rattle.stretch_map.specs.declared.stretches.Stretch.{Stretch}
@@ -89,7 +89,7 @@ abbrev pub NoLatestUpTo : {V : Type 0} → List (ℕ × Latest V) → Identifier
 NoLatestUpTo {V} ls key = (e : StretchEntry V) → IsLatest ls e → e.0.replica ≡ key.replica → key.counter < e.0.counter
 
 -- all stretches of the key's replica are kept, and begin before the key
-pub record IsBehindAll {V : Type 0} (l : Layout V) (key : Identifier) : Type 0 where
+pub record IsAfterAll {V : Type 0} (l : Layout V) (key : Identifier) : Type 0 where
   pub none : latest_at l.0 key.replica ≡ None
   pub before : (e : StretchEntry V) → KeepsEntry l.1 e → e.0.replica ≡ key.replica → e.0.counter < key.counter
 
@@ -184,20 +184,20 @@ pub record IsTakenFromLatest {V : Type 0} (ls ks : List (ℕ × Latest V)) (e : 
   pub shorter : IsShorter e left
   pub becomes : LatestBecomes ls ks e.0.replica (option_map (λ x. (x.0.counter, x.1)) left)
 
--- what is left of a stretch behind so many steps
-abbrev pub rest_behind : {V : Type 0} → (Identifier → V → ℕ → V) → StretchEntry V → ℕ → StretchEntry V
-rest_behind nth e j = (id_behind e.0 j, record { value = nth e.0 e.1.value j; last = e.1.last })
+-- what is left of a stretch after so many steps
+abbrev pub tail_from : {V : Type 0} → (Identifier → V → ℕ → V) → StretchEntry V → ℕ → StretchEntry V
+tail_from nth e j = (id_after e.0 j, record { value = nth e.0 e.1.value j; last = e.1.last })
 
--- the kept stretches fs are es, but that this one ends with the key, and what was behind is another one
+-- the kept stretches fs are es, but that this one ends with the key, and what was after is another one
 pub record IsSplit {V : Type 0} (nth : Identifier → V → ℕ → V) (es fs : List (StretchEntry V)) (e : StretchEntry V)
     (key : Identifier) : Type 0 where
   pub head : KeepsEntry fs (up_to e key.counter)
-  pub tail : KeepsEntry fs (rest_behind nth e (key.counter - e.0.counter + 1))
-  pub others : (q : Identifier) → q ≢ e.0 → q ≢ id_behind e.0 (key.counter - e.0.counter + 1) → kept_at fs q ≡ kept_at es q
+  pub tail : KeepsEntry fs (tail_from nth e (key.counter - e.0.counter + 1))
+  pub others : (q : Identifier) → q ≢ e.0 → q ≢ id_after e.0 (key.counter - e.0.counter + 1) → kept_at fs q ≡ kept_at es q
   pub ordered : IsStrictlySortedBy id_cmp (keys_of fs)
 
 -- k has the values of l, and this stretch ends with the key
-pub record IsSplitBehind {V : Type 0} (nth : Identifier → V → ℕ → V) (reaches : Identifier → V → ℕ → Type 0) (l k : Layout V)
+pub record IsSplitAfter {V : Type 0} (nth : Identifier → V → ℕ → V) (reaches : Identifier → V → ℕ → Type 0) (l k : Layout V)
     (e : StretchEntry V) (key : Identifier) : Type 0 where
   pub are : AreStretches reaches k
   pub found : (q : Identifier) → value_in nth k q ≡ value_in nth l q

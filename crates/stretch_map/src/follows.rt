@@ -1,7 +1,9 @@
+//! Rules by which the value of an identifier gives that of the next one.
+
 ghost use Rattle.std.specs.Prelude.{◌≡◌, ℕ, ◌+◌, ◌<◌, ◌^◌, ◌↔◌, IsTrue, refl};
 ghost use Rattle.fugue_ids.specs.Identifiers.{Identifier};
-ghost use Rattle.fugue_ids.specs.Runs.{id_behind};
-ghost use Rattle.stretch_map.specs.Rules.{later, CanBeLater, typed_behind};
+ghost use Rattle.fugue_ids.specs.Runs.{id_after};
+ghost use Rattle.stretch_map.specs.Rules.{later, CanBeLater, typed_after};
 ghost use Rattle.stretch_map.specs.RuleLaws.{later-adds, later-goes_on, later-joins, later-start, at_once, typed-start};
 ghost use Rattle.stretch_map.specs.RuleLaws.{typed-adds};
 
@@ -15,7 +17,7 @@ pub struct Typed {
 }
 
 impl Follows for Typed {
-    ghost nth = { typed_behind };
+    ghost nth = { typed_after };
 
     ghost reaches = { λ first t k. Unit {0} };
 
@@ -118,19 +120,19 @@ impl Follows for Same {
 
 /// A rule by which the values of a stretch follow from its first one.
 pub trait Follows: Copy {
-    /// The value so many steps behind the first identifier, by the value there.
+    /// The value so many steps after the first identifier, by the value there.
     ghost nth: { Identifier → Self → ℕ → Self };
 
-    /// The rule gives a value so many steps behind.
+    /// The rule gives a value so many steps after.
     ghost reaches: { Identifier → Self → ℕ → Type 0 };
 
-    /// The value so many steps behind the first identifier.
+    /// The value so many steps after the first identifier.
     fn nth(&self, first: ElementId, steps: u32) -> Self
         requires within { first.counter + steps < 2 ^ 32 }
         requires reached { reaches first self.now steps }
         ensures { result ≡ nth first self.now steps };
 
-    /// Whether the rule gives this value so many steps behind.
+    /// Whether the rule gives this value so many steps after.
     fn leads_to(&self, first: ElementId, steps: u32, value: &Self) -> bool
         requires { first.counter + steps < 2 ^ 32 }
         ensures { IsTrue result ↔ reaches first self.now steps × (nth first self.now steps ≡ value.now) };
@@ -143,13 +145,13 @@ pub trait Follows: Copy {
 
     /// Where it reaches a value, and the next one from there, it reaches the next one.
     ghost joins: { (first : Identifier) (value : Self) (j : ℕ) → reaches first value j
-        → reaches (id_behind first j) (nth first value j) 1 → reaches first value (j + 1) };
+        → reaches (id_after first j) (nth first value j) 1 → reaches first value (j + 1) };
 
     /// A stretch that begins in the midst of another goes on as that one does.
     ghost adds: { (first : Identifier) (value : Self) (j k : ℕ)
-        → nth (id_behind first j) (nth first value j) k ≡ nth first value (j + k) };
+        → nth (id_after first j) (nth first value j) k ≡ nth first value (j + k) };
 
     /// And the rule reaches as far from there.
     ghost goes_on: { (first : Identifier) (value : Self) (j k : ℕ) → reaches first value (j + k)
-        → reaches (id_behind first j) (nth first value j) k };
+        → reaches (id_after first j) (nth first value j) k };
 }

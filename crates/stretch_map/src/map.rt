@@ -1,7 +1,9 @@
+//! A map from identifiers to values that keeps consecutive identifiers as one entry, where a rule gives their values.
+
 ghost use Rattle.std.specs.Prelude.{◌≡◌, ◌⊎◌, ◌↔◌, ◌<◌, ◌≤◌, ◌+◌, ◌-◌, ◌^◌, None, Some, IfOk, IsOk, IsTrue, OnErr};
 ghost use Rattle.std.specs.Prelude.{OnOk};
 ghost use Rattle.std.specs.FinMap as map;
-ghost use Rattle.fugue_ids.specs.Runs.{id_behind};
+ghost use Rattle.fugue_ids.specs.Runs.{id_after};
 ghost use Rattle.stretch_map.specs.Rules.{AreFree, IsFollowedBy, IsGreatestIn, FollowsByRule, ReachesRun, with_run};
 
 use crate::follows::Follows;
@@ -114,7 +116,7 @@ impl<V: Follows> StretchMap<V> {
         requires free { AreFree (map.get self.old.values) first count }
         ensures ok { OnOk result (self.new ≡ record {
           values = with_run V.nth first value count self.old.values;
-          newest = Some (id_behind first (count - 1));
+          newest = Some (id_after first (count - 1));
         }) }
         ensures err { OnErr result (self.new ≡ self.old) }
         ensures sure { FollowsByRule V.nth V.reaches (map.get self.old.values) first value → IsOk result }

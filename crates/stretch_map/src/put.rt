@@ -2,7 +2,7 @@
 ghost use Rattle.std.specs.Prelude.{◌≡◌, ◌≤◌, IfNone, IfSome, IsFalse, IsTrue, OnErr, OnOk};
 ghost use Rattle.std.specs.BTreeMap.{IsUnchanged};
 ghost use Rattle.stretch_map.specs.Contents.{StretchEntry, layout};
-ghost use Rattle.stretch_map.specs.Stretches.{Adds, AreStretches, CanCome, GoesOn, Grows, IsBehindAll, IsFloor};
+ghost use Rattle.stretch_map.specs.Stretches.{Adds, AreStretches, CanCome, GoesOn, Grows, IsAfterAll, IsFloor};
 ghost use Rattle.stretch_map.specs.Stretches.{IsLatestUpTo, KeepsEntry, NoLatestUpTo, PutsStretch, up_to};
 
 use crate::follows::Follows;
@@ -64,9 +64,9 @@ fn extend_kept<V: Follows>(
 }
 
 /// Whether all stretches of the key's replica are kept, and begin before the key.
-fn is_behind_all<V: Follows>(stretches: &Stretches<V>, key: ElementId) -> bool
-    ensures yes { IsTrue result → IsBehindAll (layout stretches.now) key }
-    ensures no { IsFalse result → IsBehindAll (layout stretches.now) key → ⊥ }
+fn is_after_all<V: Follows>(stretches: &Stretches<V>, key: ElementId) -> bool
+    ensures yes { IsTrue result → IsAfterAll (layout stretches.now) key }
+    ensures no { IsFalse result → IsAfterAll (layout stretches.now) key → ⊥ }
 {
     if stretches.latest.of(key.replica).is_some() {
         return false;
@@ -77,7 +77,7 @@ fn is_behind_all<V: Follows>(stretches: &Stretches<V>, key: ElementId) -> bool
     }
 }
 
-/// The new stretch as one of its own. After want of memory all is as before.
+/// The new stretch as one of its own. After an allocation failure all is as before.
 fn begin<V: Follows>(
     stretches: &mut Stretches<V>,
     key: ElementId,
@@ -89,7 +89,7 @@ fn begin<V: Follows>(
     ensures ok { OnOk result (Adds V.nth V.reaches (layout stretches.old) (layout stretches.new) (key, run)) }
     ensures err { OnErr result (layout stretches.new ≡ layout stretches.old) }
 {
-    if is_behind_all(stretches, key) {
+    if is_after_all(stretches, key) {
         stretches.latest.insert(key, run)?;
         return Ok(());
     }
@@ -97,8 +97,8 @@ fn begin<V: Follows>(
     Ok(())
 }
 
-/// The new stretch, which begins before the last one of its replica, or where that has none. After want of memory all
-/// is as before.
+/// The new stretch, which begins before the last one of its replica, or where that has none. After an allocation
+/// failure all is as before.
 fn put_before<V: Follows>(
     stretches: &mut Stretches<V>,
     key: ElementId,
@@ -115,8 +115,8 @@ fn put_before<V: Follows>(
     begin(stretches, key, run)
 }
 
-/// The new stretch, which begins behind the last one of its replica. After want of memory all is as before.
-fn put_behind<V: Follows>(
+/// The new stretch, which begins after the last one of its replica. After an allocation failure all is as before.
+fn put_after<V: Follows>(
     stretches: &mut Stretches<V>,
     first: ElementId,
     stretch: &Stretch<V>,
@@ -137,7 +137,7 @@ fn put_behind<V: Follows>(
     Ok(())
 }
 
-/// A stretch of identifiers without values, from the key on. After want of memory all is as before.
+/// A stretch of identifiers without values, from the key on. After an allocation failure all is as before.
 pub(crate) fn put<V: Follows>(
     stretches: &mut Stretches<V>,
     key: ElementId,
@@ -148,7 +148,7 @@ pub(crate) fn put<V: Follows>(
     ensures { PutsStretch V.nth V.reaches (layout stretches.old) (layout stretches.new) (key, run) result }
 {
     match stretches.latest.up_to(key) {
-        Some((first, stretch)) => put_behind(stretches, first, &stretch, key, run),
+        Some((first, stretch)) => put_after(stretches, first, &stretch, key, run),
         None => put_before(stretches, key, run),
     }
 }

@@ -1,3 +1,5 @@
+//! A stretch of consecutive identifiers, and where a map keeps its stretches.
+
 ghost use Rattle.std.specs.Prelude.{IfNone, IfSome};
 ghost use Rattle.stretch_map.specs.Stretches.{IsFloor, NoneUpTo};
 
@@ -15,7 +17,7 @@ pub(crate) struct Stretch<V> {
 /// The stretches of a map.
 #[derive(Drop)]
 pub(crate) struct Stretches<V: Copy> {
-    /// At most one of each replica, which stands behind all its others. While it grows, no other one is touched.
+    /// At most one of each replica, which stands after all its others. While it grows, no other one is touched.
     pub latest: LatestMap<V>,
     /// The others, each under its first identifier.
     pub kept: BTreeMap<ElementId, Stretch<V>>,

@@ -2,7 +2,7 @@
 ghost use Rattle.std.specs.Prelude.{◌≡◌, ◌+◌, ◌<◌, ◌≤◌, IfOk, IsFalse, IsOk, IsTrue, OnErr, OnOk};
 ghost use Rattle.std.specs.BTreeMap.{IsUnchanged};
 ghost use Rattle.stretch_map.specs.Contents.{StretchEntry, layout, value_at_id};
-ghost use Rattle.stretch_map.specs.Stretches.{AreStretches, Covers, EndsAt, IsSplit, IsLatest, IsSplitBehind, IsReachedByRule};
+ghost use Rattle.stretch_map.specs.Stretches.{AreStretches, Covers, EndsAt, IsSplit, IsLatest, IsSplitAfter, IsReachedByRule};
 ghost use Rattle.stretch_map.specs.Stretches.{IsSame, IsShorter, IsTakenFrom, IsTakenFromLatest, KeepsEntry, Loses};
 
 use crate::follows::Follows;
@@ -62,7 +62,7 @@ fn shorten_latest<V: Follows>(stretches: &mut Stretches<V>, key: ElementId) -> b
     true
 }
 
-/// No replica's last stretch has the key: the one that did went to the kept ones. After want of memory all is as
+/// No replica's last stretch has the key: the one that did went to the kept ones. After an allocation failure all is as
 /// before.
 fn shelve_over<V: Follows>(stretches: &mut Stretches<V>, key: ElementId) -> Result<(), NoMemory>
     requires { AreStretches V.reaches (layout stretches.old) }
@@ -104,8 +104,8 @@ fn shorten_kept<V: Follows>(
     }
 }
 
-/// The kept stretch cut in two behind the key. After want of memory all is as before.
-fn cut_behind<V: Follows>(
+/// The kept stretch cut in two after the key. After an allocation failure all is as before.
+fn cut_after<V: Follows>(
     kept: &mut BTreeMap<ElementId, Stretch<V>>,
     first: ElementId,
     value: V,
@@ -136,7 +136,7 @@ fn cut_behind<V: Follows>(
     Ok(())
 }
 
-/// The kept stretch ends with the key: what was behind is another one. After want of memory all is as before.
+/// The kept stretch ends with the key: what was after is another one. After an allocation failure all is as before.
 fn end_at<V: Follows>(
     stretches: &mut Stretches<V>,
     first: ElementId,
@@ -146,7 +146,7 @@ fn end_at<V: Follows>(
     requires are { AreStretches V.reaches (layout stretches.old) }
     requires there { KeepsEntry stretches.old.kept.entries (first, stretch.now) }
     requires covers { Covers (first, stretch.now) key }
-    ensures ok { OnOk result (IsSplitBehind V.nth V.reaches (layout stretches.old) (layout stretches.new)
+    ensures ok { OnOk result (IsSplitAfter V.nth V.reaches (layout stretches.old) (layout stretches.new)
         (first, stretch.now) key) }
     ensures err { OnErr result (layout stretches.new ≡ layout stretches.old) }
     ensures sure { stretch.now.last ≤ key.counter → IsOk result }
@@ -154,11 +154,11 @@ fn end_at<V: Follows>(
     if stretch.last <= key.counter {
         return Ok(());
     }
-    cut_behind(&mut stretches.kept, first, stretch.value, stretch.last, key)?;
+    cut_after(&mut stretches.kept, first, stretch.value, stretch.last, key)?;
     Ok(())
 }
 
-/// A kept stretch without the key, which no replica's last one has. After want of memory all is as before.
+/// A kept stretch without the key, which no replica's last one has. After an allocation failure all is as before.
 fn take_kept<V: Follows>(stretches: &mut Stretches<V>, key: ElementId) -> Result<(), NoMemory>
     requires are { AreStretches V.reaches (layout stretches.old) }
     requires apart { (e : StretchEntry V) → IsLatest stretches.old.latest.by_replica.entries e → Covers e key → ⊥ }
@@ -181,8 +181,8 @@ fn take_kept<V: Follows>(stretches: &mut Stretches<V>, key: ElementId) -> Result
     Ok(())
 }
 
-/// The value of the key, which has none then. After want of memory the values are as before; none is wanted where a
-/// stretch ends with the key.
+/// The value of the key, which has none then. After an allocation failure the values are as before; none is wanted
+/// where a stretch ends with the key.
 pub(crate) fn take_out<V: Follows>(
     stretches: &mut Stretches<V>,
     key: ElementId,

@@ -24,9 +24,9 @@ pub ready_of : (h ops : List Op) → Lawful (history_with h ops) → ReadyInTurn
 ready_of h [] w = tt
 ready_of h (op ∷ ops) w = ((lawful_front ops (op ∷ h) w).0, ready_of (op ∷ h) ops w)
 
-ready_behind : (h xs ys : List Op) → ReadyInTurn h (xs ++ ys) → ReadyInTurn (history_with h xs) ys
-ready_behind h [] ys r = r
-ready_behind h (op ∷ xs) ys r = ready_behind (op ∷ h) xs ys r.1
+ready_after : (h xs ys : List Op) → ReadyInTurn h (xs ++ ys) → ReadyInTurn (history_with h xs) ys
+ready_after h [] ys r = r
+ready_after h (op ∷ xs) ys r = ready_after (op ∷ h) xs ys r.1
 
 -- the newest one is the last of them
 extended_is : (h ops : List Op) → history_with h ops ≡ reverse ops ++ h
@@ -76,7 +76,7 @@ pub next_can : (s now : State) (ops done more rest : List Op) → CanAccept s op
 next_can s now ops done more rest can parts was sound =
     let h : List Op = s.held.history in
     let ready : ReadyInTurn h (done ++ (more ++ rest)) = subst (ReadyInTurn h) parts can.ready in
-    let here : ReadyInTurn (history_with h done) more = ready_front (history_with h done) more rest (ready_behind h done (more ++ rest) ready) in
+    let here : ReadyInTurn (history_with h done) more = ready_front (history_with h done) more rest (ready_after h done (more ++ rest) ready) in
     let long : length ops ≡ length done + (length more + length rest) = ap length parts ∙ length-append done (more ++ rest) ∙ ap (λ k. length done + k) (length-append more rest) in
     record {
       sound = sound;
@@ -140,7 +140,7 @@ deletes_front down target n count most is =
     ∙ (λ i. take (long i) (sym whole i))
     ∙ counted (deletes_by down target n) count n most (sym (length-deletes down target n)) is
 
--- the next one and those behind it
+-- the next one and those after it
 pub next_delete : (down : Bool) (target : Identifier) (n count : ℕ) → n < count
     → deletes_by down target count ≡ deletes_by down target n ++ (Delete (target_by down target n) ∷ [] ++ deletes_by down (target_by down target (n + 1)) (count - (n + 1)))
 next_delete down target n count less =

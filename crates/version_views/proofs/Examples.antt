@@ -84,7 +84,7 @@ are_names :
 unfolding is_utf8 chars encode
 are_names = (refl, refl, refl, refl, refl, refl, refl, refl)
 
--- B of replica 2, made before the version was named and taken in behind it, is not in the version
+-- B of replica 2, made before the version was named and taken in after it, is not in the version
 abbrev joined : List Op
 joined =
     Text (id 2 0) (id 1 0) None None 66 ∷ version (id 1 2) (codes "a") ∷ Text (id 1 1) (id 1 0) None None 65 ∷ Section (id 1 0) None None (codes "T") ∷ []

@@ -6,12 +6,12 @@ use Rattle.std.proofs.lemmas.Bool.{eqb-true}
 use Rattle.std.proofs.lemmas.List.Elements.{Contains-append_cases, Contains-append_left, Contains-append_right}
 use Rattle.fugue_ids.proofs.ListLemmas.{contains_cases, contains_here, contains_none}
 use Rattle.version_views.specs.Laws.{GivesName, VersionsAreGiven}
-use Rattle.version_views.specs.Versions.{Version, is_withdrawn_version, name_given, name_in, op_behind, versions_up_to}
+use Rattle.version_views.specs.Versions.{Version, is_withdrawn_version, name_given, name_in, op_after, versions_up_to}
 
 -- an operation among the oldest ones names the version
 record Names (r : ℕ) (history ops : List Op) (v : Version) : Type 0 where
   op : Op
-  op_is : op_behind ops v.count ≡ Some op
+  op_is : op_after ops v.count ≡ Some op
   named : name_in r history op ≡ Some v.name
 
 -- the version of an operation that has n before it, by the name that it gives
@@ -24,14 +24,14 @@ named_by r op b = if b then None else name_given r op
 
 -- an operation with n before it, by whether the newest one is that
 abbrev step : Op → List Op → ℕ → Bool → Option Op
-step op older n b = if b then Some op else op_behind older n
+step op older n b = if b then Some op else op_after older n
 
-behind_within : (ops : List Op) (n : ℕ) (op : Op) → op_behind ops n ≡ Some op → n < length ops
-behind_within [] n op e = cc
-behind_within (o ∷ older) n op e =
+after_within : (ops : List Op) (n : ℕ) (op : Op) → op_after ops n ≡ Some op → n < length ops
+after_within [] n op e = cc
+after_within (o ∷ older) n op e =
     elim (cases_Bool (nat_eq (length older) n)) [
       | inl k ↦ let same : length older ≡ n = eqb-true (length older) n k in omega (arith, same)
-      | inr k ↦ omega (arith, behind_within older n op (sym (ap (step o older n) k) ∙ e))
+      | inr k ↦ omega (arith, after_within older n op (sym (ap (step o older n) k) ∙ e))
     ]
 
 -- each version is named by an operation
@@ -41,7 +41,7 @@ names_it r history (op ∷ older) v c =
     elim (Contains-append_cases (versions_up_to r history older) (one (length older) (name_in r history op)) v c) [
       | inl k ↦
           let n : Names r history older v = names_it r history older v k in
-          let other : nat_eq (length older) v.count ≡ false = ne_eqb (length older) v.count (λ d. omega (arith, d, behind_within older v.count n.op n.op_is)) in
+          let other : nat_eq (length older) v.count ≡ false = ne_eqb (length older) v.count (λ d. omega (arith, d, after_within older v.count n.op n.op_is)) in
           record { op = n.op; op_is = ap (step op older v.count) other ∙ n.op_is; named = n.named }
       | inr k ↦ newest (name_in r history op) refl k
     ]

@@ -60,7 +60,7 @@ line_next r h n op below is there =
     ∙ ap (λ (o : Option (List ℕ)). (elim o [ None ↦ [] | Some name ↦ version_line (record { name = name; count = n }) ]) ++ lines_from r h (drop (n + 1) (reverse h)) (n + 1))
     (sym (name_there r h n op there))
 
--- where it has none they are those behind it
+-- where it has none they are those after it
 pub no_line : (r : ℕ) (h ops : List Op) (n : ℕ) (op : Op) → n < length ops → op ≡ get_or ops n op → is_section_or_note op ≡ false
     → lines_from r h (drop n ops) n ≡ lines_from r h (drop (n + 1) ops) (n + 1)
 no_line r h ops n op below is other =

@@ -10,7 +10,7 @@ use Rattle.version_views.proofs.Words.{Delete, Note, Section, Text, take}
 use Rattle.replica_core.specs.Index.{is_section_or_note}
 use Rattle.replica_core.proofs.WalkLemmas.{passed_more}
 use Rattle.version_views.specs.Laws.{LaterOpsLeaveVersion, LaterOpsLeaveWritten, VersionIsWithin, leaves_version}
-use Rattle.version_views.specs.Versions.{Version, is_version, is_version_at, is_withdrawn_version, last_named, name_given, name_in, name_in_at, op_behind, version_with}
+use Rattle.version_views.specs.Versions.{Version, is_version, is_version_at, is_withdrawn_version, last_named, name_given, name_in, name_in_at, op_after, version_with}
 use Rattle.version_views.specs.Versions.{versions_up_to, withdraws, withdraws_note}
 use Rattle.version_views.specs.Views.{view}
 use Rattle.version_views.proofs.ViewLemmas.{later_ops_leave_view}
@@ -136,7 +136,7 @@ withdrawn_same new h op e =
 
 -- where the newest version of some operations is kept, it is found in a longer history too
 newest_stays : (r : ℕ) (new h : List Op) (name : List ℕ) (ops : List Op)
-    → ((n : ℕ) (note : Op) → newest r h name ops ≡ Some n → op_behind ops n ≡ Some note → kept_by new note ≡ true)
+    → ((n : ℕ) (note : Op) → newest r h name ops ≡ Some n → op_after ops n ≡ Some note → kept_by new note ≡ true)
     → newest r (new ++ h) name ops ≡ newest r h name ops
 newest_stays r new h name [] f = refl
 newest_stays r new h name (op ∷ older) f =
@@ -144,13 +144,13 @@ newest_stays r new h name (op ∷ older) f =
     elim (cases_Bool (is_version r h name op)) [
       | inl k ↦
           let found : newest r h name (op ∷ older) ≡ Some (length older) = ap (step h) k in
-          let at : op_behind (op ∷ older) (length older) ≡ Some op = ap (λ b. if b then Some op else op_behind older (length older)) (eq-eqb (length older) (length older) refl) in
+          let at : op_after (op ∷ older) (length older) ≡ Some op = ap (λ b. if b then Some op else op_after older (length older)) (eq-eqb (length older) (length older) refl) in
           let same : is_withdrawn_version (new ++ h) op ≡ is_withdrawn_version h op = withdrawn_same new h op (f (length older) op found at) in
           ap (step (new ++ h)) (ap (named_by r name op) same ∙ k) ∙ sym found
       | inr k ↦
           ap (step (new ++ h)) (none_stays r new h name op k)
           ∙ newest_stays r new h name older (λ n note e g. f n note (ap (step h) k ∙ e)
-          (ap (λ b. if b then Some op else op_behind older n) (ne_eqb (length older) n (λ d. omega (arith, d, newest_within r h name older n e))) ∙ g))
+          (ap (λ b. if b then Some op else op_after older n) (ne_eqb (length older) n (λ d. omega (arith, d, newest_within r h name older n e))) ∙ g))
           ∙ sym (ap (step h) k)
     ]
 
@@ -182,7 +182,7 @@ later_ops_leave_version r name new h a =
     ∙ newest_stays r new h name h kept
     ∙ sym (last_is_newest r h name h)
   where
-    kept : (n : ℕ) (note : Op) → newest r h name h ≡ Some n → op_behind h n ≡ Some note → kept_by new note ≡ true
+    kept : (n : ℕ) (note : Op) → newest r h name h ≡ Some n → op_after h n ≡ Some note → kept_by new note ≡ true
     kept n note e g =
         let is : version_with h r name ≡ Some n = last_is_newest r h name h ∙ e in
         let each : All (λ op. withdraws h r name op ≡ false) new = All-weaker (λ op. leaves_version new h r name op ≡ true) (λ op. withdraws h r name op ≡ false)

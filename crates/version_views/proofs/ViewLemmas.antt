@@ -15,7 +15,7 @@ pub shown_by_filter : ShownByFilter
 shown_by_filter p new h w =
     ap (filter (λ x. not (is_hidden h x))) (order_by_filter p new h w) ∙ filter-both (holds h) (λ x. not (is_hidden h x)) (order p (new ++ h))
 
--- the operations behind the first n, and these
+-- the operations after the first n, and these
 pub parts : (n : ℕ) (h : List Op) → take (length h - n) h ++ first_ops n h ≡ h
 parts n h = take-append-drop (length h - n) h
 

@@ -8,7 +8,7 @@ use Rattle.origin_model.specs.operations.History.{holds}
 use Rattle.origin_model.specs.operations.Verdict.{Lawful}
 use Rattle.origin_model.specs.order.Order.{order}
 use Rattle.origin_model.specs.order.Printed.{is_hidden, shown}
-use Rattle.version_views.specs.Versions.{Version, is_version, is_withdrawn_version, name_given, op_behind, version_with, versions}
+use Rattle.version_views.specs.Versions.{Version, is_version, is_withdrawn_version, name_given, op_after, version_with, versions}
 use Rattle.version_views.specs.Versions.{withdraws}
 use Rattle.version_views.specs.Views.{first_ops, view}
 
@@ -53,7 +53,7 @@ LaterOpsLeaveWritten = (r : ℕ) (name : List ℕ) (new h : List Op) → All (λ
 -- the operation that has so many before it gives the name in a file of the replica r, and no Delete names it
 pub record GivesName (h : List Op) (r : ℕ) (v : Version) : Type 0 where
   pub op : Op
-  pub op_is : op_behind h v.count ≡ Some op
+  pub op_is : op_after h v.count ≡ Some op
   pub gives : name_given r op ≡ Some v.name
   pub not_withdrawn : is_withdrawn_version h op ≡ false
 

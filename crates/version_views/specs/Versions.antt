@@ -68,13 +68,13 @@ abbrev pub is_version_at : ℕ → List Op → List ℕ → ℕ → Bool
 is_version_at r history name n = elim (name_in_at r history n) [ None ↦ false | Some body ↦ pointwise nat_eq body name ]
 
 -- the operation that has n before it
-abbrev pub op_behind : List Op → ℕ → Option Op
-op_behind [] n = None
-op_behind (op ∷ older) n = if nat_eq (length older) n then Some op else op_behind older n
+abbrev pub op_after : List Op → ℕ → Option Op
+op_after [] n = None
+op_after (op ∷ older) n = if nat_eq (length older) n then Some op else op_after older n
 
 -- an operation withdraws the note that follows the first n operations
 abbrev pub withdraws_note : List Op → ℕ → Op → Bool
-withdraws_note history n op = elim (op_behind history n) [
+withdraws_note history n op = elim (op_after history n) [
   | None ↦ false
   | Some note ↦ elim (id_of note) [ None ↦ false | Some i ↦ deletes i op ]
 ]

@@ -16,7 +16,7 @@ first_ops n history = drop (length history - n) history
 abbrev pub view : List Op → ℕ → List ℕ
 view history n = manuscript (first_ops n history)
 
--- the text goes out, or the output fails with a front of it gone out, or memory is wanting and nothing went out
+-- the text goes out, or the output fails with a front of it gone out, or memory runs out and nothing went out
 abbrev pub WritesView : OutView → OutView → Result (Unit {0}) ViewFault → List ℕ → Type 0
 WritesView old new (Ok done) text = WritesBytes {E = Failed} {T = Unit {0}} old new (Ok done) text
 WritesView old new (Err SinkFault) text = WritesBytes {E = Failed} {T = Unit {0}} old new (Err (record {})) text

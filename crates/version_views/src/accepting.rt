@@ -73,7 +73,7 @@ fn accept_deletes(front: &mut Replica, deletes: &Deletes, count: u32) -> Result<
     Ok(())
 }
 
-/// Accepts copies of the first so many operations of a stretch, or of all. The answer is how many.
+/// Accepts copies of the first so many operations of a stretch, or of all. Returns how many.
 fn accept_some(
     alloc: Global,
     front: &mut Replica,

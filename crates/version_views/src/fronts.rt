@@ -52,7 +52,7 @@ pub(crate) fn front_of(alloc: Global, replica: &Replica, count: usize) -> Result
     }
 }
 
-/// The same, for any number: None is the answer where the replica did not accept so many.
+/// The same, for any number: Returns None where the replica did not accept so many.
 ///
 /// It has the number and the hold of the whole, and leaves room for what the whole holds besides, so that the whole has
 /// room for what is made on it. Where the whole has no room and `count` is 0, it may hold one operation nevertheless.

@@ -26,7 +26,7 @@ pub fn versions_are_given()
     ensures { VersionsAreGiven }
 {}
 
-/// Operations that are taken in or made stand behind those that a replica had accepted, and none of these is taken away:
+/// Operations that are taken in or made stand after those that a replica had accepted, and none of these is taken away:
 /// so the first ones are the same for good.
 pub fn histories_grow()
     ensures intakes { IntakesGrow }

@@ -20,7 +20,7 @@ pub enum VersionFault {
     NoMemory,
 }
 
-/// Names what the replica has accepted so far. The answer is 1, the number of operations that were made.
+/// Names what the replica has accepted so far. Returns 1, the number of operations that were made.
 pub fn name_version(replica: &mut Replica, name: Body) -> Result<u32, VersionFault>
     requires settled { IsSettled replica.old.held }
     requires name { is_name_of name ≡ true }

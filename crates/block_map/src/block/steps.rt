@@ -1,3 +1,5 @@
+//! The calls of one block: its counters and values, in two columns.
+
 ghost use Rattle.std.specs.Prelude.{◌≡◌, ℕ, ◌↔◌, ◌-◌, ◌<◌, ◌≤◌, ⊤, [], length, slice_index, vec_len};
 ghost use Rattle.std.specs.Prelude.{IfErr, IfNone, IfOk, IfSome, IsFalse, IsTrue, None, OnErr, OnOk, Some};
 ghost use Rattle.std.specs.List.{insert as with_one};
@@ -12,7 +14,7 @@ use super::Block;
 use fugue_ids::NoMemory;
 use std::alloc::Global;
 
-/// One entry more at the place. After want of memory both columns are as before.
+/// One entry more at the place. After an allocation failure both columns are as before.
 fn insert_beside<V: Copy>(
     counters: &mut Vec<u32>,
     values: &mut Vec<V>,
@@ -67,7 +69,7 @@ impl<V: Copy> Block<V> {
         }
     }
 
-    /// The counter has this value then. Only one without a value can want memory, and then each has what it had.
+    /// The counter has this value then. Only one without a value can run out of memory, and then each has what it had.
     pub fn insert(&mut self, counter: u32, value: V) -> Result<(), NoMemory>
         ensures ok { OnOk result (IsReplaced (value_at self.old) (value_at self.new) counter (Some value)) }
         ensures some { OnOk result (0 < length self.new.counters.items) }

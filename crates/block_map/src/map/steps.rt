@@ -1,3 +1,5 @@
+//! The calls of the map: look-up, insertion, removal and renaming of an identifier.
+
 ghost use Rattle.std.specs.Prelude.{◌≡◌, IfSome, None, OnErr, OnOk, Some, option_map};
 ghost use Rattle.fugue_ids.specs.Keyed.{IsReplaced};
 ghost use Rattle.block_map.specs.Contents.{HasSameValues, IsEmpty, value_of};
@@ -29,7 +31,8 @@ impl<V: Copy> BlockMap<V> {
         value_of_id(&self.blocks, id)
     }
 
-    /// The identifier has this value then. Only one without a value can want memory, and then each has what it had.
+    /// The identifier has this value then. Only one without a value can run out of memory, and then each has what it
+    /// had.
     pub fn insert(&mut self, id: ElementId, value: V) -> Result<(), NoMemory>
         ensures ok { OnOk result (IsReplaced (value_of self.old) (value_of self.new) id (Some value)) }
         ensures err { OnErr result (HasSameValues self.old self.new) }
@@ -45,7 +48,7 @@ impl<V: Copy> BlockMap<V> {
         take_out(&mut self.blocks, id);
     }
 
-    /// The value stands under another identifier then. After want of memory each has what it had.
+    /// The value stands under another identifier then. After an allocation failure each has what it had.
     ///
     /// Where the new identifier is of the same block and no other one lies between, the value stays where it is, which
     /// costs one search.

@@ -13,8 +13,8 @@ use std::process::Abort;
 /// It makes of the new file what is saved.
 pub(super) const SCRIPT: &[u8] = b"add 1 T\nput 1 0 AB\ncut 1 1 1\nput 1 1 C\n";
 
-/// Runs the script on a new file, where calls of the script and of the notes fail. The answer is the status, and
-/// whether this line is noted, nothing is written and the file has these bytes.
+/// Runs the script on a new file, where calls of the script and of the notes fail. Returns the status, and whether this
+/// line is noted, nothing is written and the file has these bytes.
 fn edits_new(
     rt: &(impl Abort + AllocGlobal),
     fails: [&[u32]; 2],

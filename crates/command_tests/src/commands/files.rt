@@ -75,8 +75,8 @@ fn a_sure_file_with_room_does_not_fail(rt: HostRuntime) {
     }
 }
 
-/// Runs on a file where calls on it, the output and the notes fail. The answer is the status, whether a front of the
-/// text was written, and whether the fault alone was noted.
+/// Runs on a file where calls on it, the output and the notes fail. Returns the status, whether a front of the text was
+/// written, and whether the fault alone was noted.
 fn see_of(
     rt: &(impl Abort + AllocGlobal),
     words: &str,

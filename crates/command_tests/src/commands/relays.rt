@@ -62,9 +62,9 @@ fn runs_so(
     is_so
 }
 
-/// Runs at a dock that gives and takes so many bytes a call, and of which the first calls fail. The answer is whether
-/// the run ends so; whether both sessions were sent all that they asked for, at the port, and ended in the order in
-/// which they asked; and whether the dock's next step is still the first one.
+/// Runs at a dock that gives and takes so many bytes a call, and of which the first calls fail. Returns whether the run
+/// ends so; whether both sessions were sent all that they asked for, at the port, and ended in the order in which they
+/// asked; and whether the dock's next step is still the first one.
 fn see(
     rt: &(impl Abort + AllocGlobal),
     words: &str,
@@ -128,7 +128,7 @@ const ROWS: &[Row] = &[
         false,
         true,
     ),
-    // No step is asked for behind the last session.
+    // No step is asked for after the last session.
     ("relay 47113 1", NONE, DONE, false, false),
 ];
 

@@ -147,7 +147,7 @@ fn each_call_may_fail(rt: HostRuntime) {
     }
 }
 
-/// The section with 10,000 letters, each typed behind the one before: the eighth write would fail.
+/// The section with 10,000 letters, each typed after the one before: the eighth write would fail.
 #[test]
 fn many_letters_go_out_in_few_writes(rt: HostRuntime) {
     let mut bytes = stream(&rt, &[S, LOWER_A]);

@@ -67,8 +67,8 @@ const COMING: Batch = &[S, BEHIND_A];
 
 const COUNTS: &[u8] = b"accepted 1, repeated 0, waiting 1, conflict 0, stray 0, full 0\n";
 
-/// Runs where these calls on the input, the notes and the other file fail. The answer is the status, and whether the
-/// fault was noted as it should be.
+/// Runs where these calls on the input, the notes and the other file fail. Returns the status, and whether the fault
+/// was noted as it should be.
 fn takes(
     rt: &(impl Abort + AllocGlobal),
     words: &str,
@@ -97,7 +97,7 @@ fn takes(
     (status, is_reported)
 }
 
-/// Runs where this call on the object fails, and answers the status, where the run left what it should: the fault is
+/// Runs where this call on the object fails, and returns the status, where the run left what it should: the fault is
 /// noted, that of the input or of the other file leaves the file empty, and that of the notes leaves it saved.
 fn status_without(
     rt: &(impl Abort + AllocGlobal),

@@ -61,7 +61,7 @@ fn the_operations_of_a_run_are_taken_in_and_said(rt: HostRuntime) {
 const UP_TO_THREE: &[(&[&[u8]], SyncFault, usize)] = &[
     (&[S, RUN, FOUR], SyncFault::TooMany(3), 3),
     (&[S, RUN], SyncFault::TooMany(3), 3),
-    // What stands behind the run is not looked at.
+    // What stands after the run is not looked at.
     (&[S, RUN, b"\x58\x02"], SyncFault::TooMany(3), 3),
     (&[S, RUN, b"\x07"], SyncFault::TooMany(3), 3),
     // The run that would be too many does not come whole.

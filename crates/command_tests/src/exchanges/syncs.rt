@@ -37,7 +37,7 @@ struct Exchange {
 
 /// Exchanges of one replica, one after another.
 const EXCHANGES: &[Exchange] = &[
-    // A text of a section that is not there, a delete, and a byte behind the reply: both wait.
+    // A text of a section that is not there, a delete, and a byte after the reply: both wait.
     Exchange {
         cursor: 0,
         reply: &[
@@ -51,7 +51,7 @@ const EXCHANGES: &[Exchange] = &[
         }),
         kept: 2,
     },
-    // What waits is said. The section comes, twice, and the text is accepted behind it.
+    // What waits is said. The section comes, twice, and the text is accepted after it.
     Exchange {
         cursor: 2,
         reply: &[

@@ -5,8 +5,8 @@ ghost use Rattle.std.specs.Prelude.{◌≤◌, length};
 use fugue_ids::{ElementId, NoMemory, Op};
 use op_frame::encode;
 
-/// Whether the operation is the Text so many behind the first one, where they are typed in a row.
-fn is_behind(first: &Op, op: &Op, behind: u32) -> bool {
+/// Whether the operation is the Text so many after the first one, where they are typed in a row.
+fn is_after(first: &Op, op: &Op, behind: u32) -> bool {
     match (first, op) {
         (
             Op::Text {
@@ -45,7 +45,7 @@ fn longest(ops: &[Op]) -> usize
         let mut is_run = true;
         let mut behind = 0u32;
         for op in &ops[..count] {
-            if behind > 0 && !is_behind(&ops[0], op, behind) {
+            if behind > 0 && !is_after(&ops[0], op, behind) {
                 is_run = false;
             }
             behind = behind.wrapping_add(1);

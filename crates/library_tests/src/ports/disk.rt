@@ -185,7 +185,7 @@ fn a_sure_disk_takes_what_fits(rt: HostRuntime) -> Result<(), Fail> {
     Ok(())
 }
 
-/// How a file is opened in turn, the steps that it takes then, and what stands behind them.
+/// How a file is opened in turn, the steps that it takes then, and what stands after them.
 const KEPT: [(Opening, &[Taken], &str); 4] = [
     (
         Opening::Creating,

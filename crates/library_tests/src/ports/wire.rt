@@ -51,7 +51,7 @@ const ONE: Latest<Dial> = Latest {
     }),
 };
 
-/// It was dialled again, behind three bytes that were written, with one left to read.
+/// It was dialled again, after three bytes that were written, with one left to read.
 const OTHER: Latest<Dial> = Latest {
     count: 2,
     last: Some(Dial {

@@ -51,7 +51,7 @@ pub fn gap_position(cells: &[Cell], gap: &Gap) -> usize {
     }
 }
 
-/// Whether the cell continues the run of the one that it is put behind.
+/// Whether the cell continues the run of the one that it is put after.
 pub fn is_continuing(before: &Cell, cell: &Cell) -> bool {
     cell.left == Some(before.id)
         && cell.right == before.right

@@ -37,7 +37,7 @@ pub record MemLooks {E T : Type 0} (asked old new : MemDiskView) (result : Resul
   pub passed : OnOk result (new ≡ record asked { calls = call_passed old.calls })
 
 -- A write or a sync of n bytes that is to fail does. Another fails only where it needs further memory, so that as many
--- writes as calls are listed can fail behind it, and then nothing is done. One that is taken leaves memory for those.
+-- writes as calls are listed can fail after it, and then nothing is done. One that is taken leaves memory for those.
 pub record MemSteps {E T : Type 0} (n : ℕ) (next : History) (old new : MemDiskView) (result : Result T E) : Type 0 where
   pub fails : FailsNext old.calls → IsErr result
   pub taken : OnOk result

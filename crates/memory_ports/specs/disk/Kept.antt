@@ -30,7 +30,7 @@ step_of (Wrote at n) bytes s = wrote at bytes s
 step_of (Tried at n) bytes s = tried_state at n s
 step_of Synced bytes s = durable s
 
--- the steps, the oldest first, with all bytes that they wrote one behind the other
+-- the steps, the oldest first, with all bytes that they wrote one after the other
 abbrev pub replayed_history : List Step → List ℕ → History → History
 replayed_history [] written h = h
 replayed_history (step ∷ steps) written h =

@@ -47,7 +47,7 @@ pub record HasRooms (steps : List MemStep) (room : ℕ) (transcripts : List Tran
   pub sent : (session : ℕ) → sent_by transcripts session ≡ []
   pub fits : (session : ℕ) → room_by transcripts session ≡ if opens_session steps session then room else 0
 
--- a dock listens on the port behind the steps that were taken
+-- a dock listens on the port after the steps that were taken
 abbrev pub listening_at : (port : ℕ) → (taken : List MemStep) → Listening
 listening_at port taken = record { port = port; taken = Some (length taken) }
 

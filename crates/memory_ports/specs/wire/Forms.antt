@@ -45,7 +45,7 @@ sure_source_of wire = record { left = wire.left; piece = wire.piece }
 abbrev pub sure_sink_of : SureWireView → SureSinkView
 sure_sink_of wire = record { written = wire.said; piece = wire.piece; room = wire.room; faults = wire.faults }
 
--- the port is dialled behind what was written, with this left to read
+-- the port is dialled after what was written, with this left to read
 abbrev pub dial_at : (port : ℕ) → (said left : List ℕ) → Dial
 dial_at port said left = record { port = port; said = Some (length said); left = Some (length left) }
 

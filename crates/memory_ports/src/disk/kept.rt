@@ -1,4 +1,4 @@
-//! The file behind both disks in memory: its bytes, its writes and syncs so far, and what a crash leaves.
+//! The file after both disks in memory: its bytes, its writes and syncs so far, and what a crash leaves.
 ghost use Rattle.std.specs.Prelude.{◌⊎◌, ◌≡◌, ◌≤◌, ◌<◌, ◌+◌, ◌-◌, ◌^◌, [], length, min, IfOk, OnOk, OnErr, vec_len};
 ghost use Rattle.std.specs.Prelude.{vec_capacity, true, false, if◌then◌else◌};
 ghost use Rattle.outer_ports.specs.disk.States.{at_rest, wrote, tried_state, durable, IsHonest, IsCrashImage, overwritten};
@@ -110,7 +110,7 @@ impl Kept {
         if self.fresh { &self.bytes } else { &self.base }
     }
 
-    /// Gives bytes that stand from `at` on, and answers how many.
+    /// Gives bytes that stand from `at` on, and returns how many.
     pub(crate) fn read_at(&self, at: u64, buf: &mut [u8]) -> usize
         ensures bound { result ≤ length buf.new }
         ensures gives { GivesAt self.now.past.last.seen at result buf.new }

@@ -24,7 +24,7 @@ pub enum Pick {
     Fill(u8),
 }
 
-/// A file in memory. It fails at the calls that it is set to, and where memory is wanting.
+/// A file in memory. It fails at the calls that it is set to, and where memory runs out.
 #[derive(Drop)]
 pub struct MemDisk {
     alloc: Global,

@@ -112,7 +112,7 @@ impl Arrivals {
         step
     }
 
-    /// The same with no room prepared. Nothing is taken where no step is left, or where memory is wanting.
+    /// The same with no room prepared. Nothing is taken where no step is left, or where memory runs out.
     pub(super) fn take_if_able(&mut self, most: usize, buf: &mut [u8]) -> Option<DockStep>
         requires most { (0 < most) × (most ≤ length buf.old) }
         ensures fits { IfSome result (λ step. Fits step (length buf.new)) }
@@ -152,7 +152,7 @@ pub(super) fn most_calls_of(steps: &[MemStep]) -> Option<usize>
     Some(calls)
 }
 
-/// Where the steps to come begin behind so many bytes of a step that serves so many calls.
+/// Where the steps to come begin after so many bytes of a step that serves so many calls.
 fn behind(at: usize, offset: usize, most: usize, calls: usize) -> (usize, usize)
     requires within { offset < calls }
     requires at { at < 2 ^ 63 }

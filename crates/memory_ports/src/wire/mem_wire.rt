@@ -10,7 +10,7 @@ use std::alloc::Global;
 use std::marker::Model;
 
 /// Gives a reply from memory and keeps what is written, as much in each call as its piece allows. It fails at the calls
-/// that it is set to, and where memory is wanting.
+/// that it is set to, and where memory runs out.
 #[derive(Drop)]
 pub struct MemWire {
     dials: Latest<Dial>,

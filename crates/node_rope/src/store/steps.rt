@@ -1,3 +1,5 @@
+//! The calls of the store: making nodes, reading and changing them, freeing all.
+
 // What a store does.
 ghost use Rattle.std.specs.Prelude.{◌≡◌, ◌<◌, ◌≤◌, ◌+◌, ◌-◌, ◌^◌, [], ◌∷◌, ◌++◌, length, slice_set, slice_index_or};
 ghost use Rattle.std.specs.Prelude.{MatchResult, IfOk, IfErr};
@@ -45,7 +47,7 @@ impl<T: Drop> Store<T> {
         self.pile.at_mut(link.spot, link.number as usize).shape = Packed::new(shape);
     }
 
-    // One more node below that of the link, which counts for `own`. The answer is its parent.
+    // One more node below that of the link, which counts for `own`. Returns its parent.
     pub(crate) fn raise(&mut self, link: Link, own: Own) -> Option<Link>
         requires made { IsMade self.old link }
         requires counts { (shape_at (shapes_of self.old) link.number).count < 2 ^ 32 - 1 }
@@ -63,7 +65,7 @@ impl<T: Drop> Store<T> {
         up
     }
 
-    // The weight at the link gains `more` and loses `less`. The answer is the parent.
+    // The weight at the link gains `more` and loses `less`. Returns the parent.
     pub(crate) fn shift(&mut self, link: Link, less: u32, more: u32) -> Option<Link>
         requires made { IsMade self.old link }
         requires fits { (shape_at (shapes_of self.old) link.number).weight + more < 2 ^ 64 }
@@ -131,7 +133,7 @@ impl<T: Drop> Store<T> {
         Ok(link)
     }
 
-    // Takes the node back that was made last. The answer is its value.
+    // Takes the node back that was made last. Returns its value.
     pub(crate) fn unmake(&mut self) -> T
         requires { 0 < made_count self.old }
         ensures { IsLess self.old self.new result }

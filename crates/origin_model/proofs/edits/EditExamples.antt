@@ -19,7 +19,7 @@ four_edits = Add 0 (codes "T") ∷ Put 0 0 (codes "AB") ∷ Cut 0 1 1 ∷ []
 abbrev after_cut : List Op
 after_cut = edited [] four_edits
 
--- AC is shown, of five operations; C is (1,3), behind A and before the deleted B
+-- AC is shown, of five operations; C is (1,3), after A and before the deleted B
 five_operations :
     (text (edited after_cut (Put 0 1 (codes "C") ∷ [])) section ≡ codes "AC")
     × (edited after_cut (Put 0 1 (codes "C") ∷ [])
@@ -38,23 +38,23 @@ foreign = id_at 9 0
 abbrev without_B : List Op
 without_B = edited (Section foreign None None (codes "T") ∷ []) (Put 0 0 (codes "AB") ∷ Cut 0 1 1 ∷ [])
 
--- C is (1,2), behind A and before the deleted B, and it stands between them
-C_behind_A :
+-- C is (1,2), after A and before the deleted B, and it stands between them
+C_after_A :
     (made 1 without_B [] (Put 0 1 (codes "C")) ≡ Text (id_at 1 2) foreign (Some (id_at 1 0)) (Some (id_at 1 1)) 67 ∷ [])
     × (order (within foreign) (edited without_B (Put 0 1 (codes "C") ∷ [])) ≡ id_at 1 0 ∷ id_at 1 2 ∷ id_at 1 1 ∷ [])
     × (text (edited without_B (Put 0 1 (codes "C") ∷ [])) foreign ≡ codes "AC")
 unfolding order chain
-C_behind_A = (refl, refl, refl)
+C_after_A = (refl, refl, refl)
 
 -- `e`, U+0301 and `f`: the first cluster has two scalars
 abbrev accented : List Op
 accented = edited [] (Add 0 (codes "T") ∷ Put 0 0 (101 ∷ 769 ∷ 102 ∷ []) ∷ [])
 
--- X goes in behind the first cluster
+-- X goes in after the first cluster
 abbrev with_X : List Op
 with_X = edited accented (Put 0 2 (codes "X") ∷ [])
 
--- it stands behind the accent, and both scalars of the cluster go
+-- it stands after the accent, and both scalars of the cluster go
 clusters : (text with_X section ≡ 101 ∷ 769 ∷ 88 ∷ 102 ∷ []) × (text (edited with_X (Cut 0 0 2 ∷ [])) section ≡ codes "Xf")
 unfolding order chain
 clusters = (refl, refl)

@@ -1,5 +1,5 @@
 -- The identifiers that an edit makes are new: no accepted or waiting operation has or names one of them.
-use Rattle.origin_model.proofs.Words.{All, All-cons, All-head, All-nil, All-weaker, Bool, Delete, Identifier, List, Op, Some, [], all_before, all_behind, all_from_contains}
+use Rattle.origin_model.proofs.Words.{All, All-cons, All-head, All-nil, All-weaker, Bool, Delete, Identifier, List, Op, Some, [], all_before, all_after, all_from_contains}
 use Rattle.origin_model.proofs.Words.{all_from_map, ap, arith, eq-eqb, false, false_from_ne_true, filter, flat_map, holds, id_eq, id_eq-true, id_held, id_of, is_own, map, names}
 use Rattle.origin_model.proofs.Words.{nat_eq, option_to_list, origin_eq, refl, subst, sym, true, ℕ, ◌++◌, ◌<◌, ◌∙◌, ◌∷◌, ◌≡◌, ◌≤◌}
 use Rattle.std.proofs.lemmas.Grind.{flat_map-append}
@@ -43,7 +43,7 @@ history_below r h w =
 pub waiting_below : (r : ℕ) (h w : List Op) → BelowAll r (next_counter r h w) w
 waiting_below r h w =
     let P : Identifier → Type 0 = IsBelow r (next_counter r h w) in
-    all_behind P (flat_map mentioned_ids h) (flat_map mentioned_ids w) (subst (All P) (flat_map-append mentioned_ids h w) (next_below r h w))
+    all_after P (flat_map mentioned_ids h) (flat_map mentioned_ids w) (subst (All P) (flat_map-append mentioned_ids h w) (next_below r h w))
 
 -- an identifier from c on is none of them
 not_mine : (r c n : ℕ) (i : Identifier) → IsBelow r c i → c ≤ n → id_eq (id_at r n) i ≡ false
@@ -72,7 +72,7 @@ pub none_from : (r c : ℕ) (h : List Op) → BelowAll r c h → NoneFrom r c h
 none_from r c [] b n k = refl
 none_from r c (op ∷ h) b n k =
     holds-other op h (id_at r n) (own_below r c n op (all_before (IsBelow r c) (mentioned_ids op) (flat_map mentioned_ids h) b) k)
-    ∙ none_from r c h (all_behind (IsBelow r c) (mentioned_ids op) (flat_map mentioned_ids h) b) n k
+    ∙ none_from r c h (all_after (IsBelow r c) (mentioned_ids op) (flat_map mentioned_ids h) b) n k
 
 -- no operation that waits has or names the operation's own identifier
 abbrev pub IsUnknown : List Op → Op → Type 0

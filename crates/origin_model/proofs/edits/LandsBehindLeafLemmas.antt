@@ -1,6 +1,6 @@
 -- Where an element lands whose left origin is no other element's.
 use Rattle.origin_model.proofs.Words.{All-contains, Bool, Contains, Contains-append_cases, Contains-append_left, Contains-append_right, Identifier, IsIn, IsOrderedBy, Lawful, List}
-use Rattle.origin_model.proofs.Words.{None, Op, Place, Some, [], all_from_contains, all_pairs_behind, ap, append-nil, append_assoc, before_in, cases_Bool, chain_before}
+use Rattle.origin_model.proofs.Words.{None, Op, Place, Some, [], all_from_contains, all_pairs_after, ap, append-nil, append_assoc, before_in, cases_Bool, chain_before}
 use Rattle.origin_model.proofs.Words.{contains_here, contains_middle, element_of, false, false_from_ne_true, holder, inl, inr, is_own, left_at, left_of, lefts, next_left, order}
 use Rattle.origin_model.proofs.Words.{placed, sibling, subst, sym, true, true≢false, ◌++◌, ◌∙◌, ◌∷◌, ◌≡◌, ◌≢◌}
 use Rattle.origin_model.proofs.order.{IsIn-held, before_in-irrefl, before_in-trans, chain-other, chain-own, chain_above, common, first_before, front_before, left_by}
@@ -79,7 +79,7 @@ module _ (p : Place) (op : Op) (older : List Op) (x l : Identifier) (front back 
 
   back_stays : (e : Identifier) → Contains back e → Bx e x ≡ false
   back_stays e m =
-      let comes : Bx l e ≡ true = first_before Bx l e back (all_pairs_behind (λ a b. Bx a b ≡ true) front (l ∷ back) sorted) m in
+      let comes : Bx l e ≡ true = first_before Bx l e back (all_pairs_after (λ a b. Bx a b ≡ true) front (l ∷ back) sorted) m in
       as_left e (old_in e (contains_around front l back e (Contains-append_right front back e m)))
       (λ d. true≢false (sym comes ∙ ap (Bx l) d ∙ before_in-irrefl (order p older) h l))
       ∙ false_from_ne_true (Bx e l) (λ j. loop l e comes j)
@@ -102,7 +102,7 @@ module _ (p : Place) (op : Op) (older : List Op) (x l : Identifier) (front back 
       (all_from_contains (λ e. Bx e x ≡ false) back back_stays)
       ∙ append_assoc front (l ∷ []) (x ∷ back)
 
--- an element whose left origin is no other element's lands directly behind that
+-- an element whose left origin is no other element's lands directly after that
 pub lands_behind_leaf : LandsBehindLeaf
 lands_behind_leaf p op older x l front back w at left leaf whole = lands p op older x l front back w at left leaf whole
 
@@ -125,7 +125,7 @@ newest_is_leaf p op older l w at u e =
     never_some : Some l ≡ None → ⊥
     never_some d = cc d
 
--- an element that was accepted directly after its left origin lands directly behind it
+-- an element that was accepted directly after its left origin lands directly after it
 pub lands_behind_newest : LandsBehindNewest
 lands_behind_newest p next op older x l front back w at_op at left whole =
     lands_behind_leaf p next (op ∷ older) x l front back w at left (newest_is_leaf p op older l w.1 at_op) whole

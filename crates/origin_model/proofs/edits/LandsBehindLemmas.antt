@@ -1,6 +1,6 @@
 -- Where an element lands whose origins stand next to each other.
 use Rattle.origin_model.proofs.Words.{All, All-contains, All-head, All-tail, Bool, Contains, Contains-append_cases, Contains-append_left, Contains-append_right, Identifier, IsIn}
-use Rattle.origin_model.proofs.Words.{IsOrderedBy, Lawful, List, None, Op, Option, Place, Some, [], all_from_contains, all_pairs_before, all_pairs_behind, ap, append-nil}
+use Rattle.origin_model.proofs.Words.{IsOrderedBy, Lawful, List, None, Op, Option, Place, Some, [], all_from_contains, all_pairs_before, all_pairs_after, ap, append-nil}
 use Rattle.origin_model.proofs.Words.{append_assoc, arith, before_in, cases_Bool, cases_origin, chain_before, contains_here, contains_middle, element_of, false, false_from_ne_true}
 use Rattle.origin_model.proofs.Words.{false≢true, fork_before, has_left, holder, if◌then◌else◌, inl, inr, is_own, is_some, left_at, left_of, lefts, length, next_left, next_right}
 use Rattle.origin_model.proofs.Words.{order, origin_eq, placed, refl, right_beside, right_of, rights, same_from_push, sibling, slice_index_or, subst, suc, sym, true, true≢false}
@@ -23,7 +23,7 @@ pub has_left_from : (o : Option Op) (l : Option Identifier) → is_some o ≡ tr
 has_left_from None l k e = absurd (false≢true k)
 has_left_from (Some op) l k e = ap (λ z. origin_eq z l) e ∙ origin_eq-refl l
 
--- an element goes in behind those that stand before it, and before the others
+-- an element goes in after those that stand before it, and before the others
 pub placed_between : (q : Identifier → Bool) (front back : List Identifier) (x : Identifier) → All (λ e. q e ≡ true) front → All (λ e. q e ≡ false) back
     → placed q (front ++ back) x ≡ front ++ x ∷ back
 placed_between q [] back x f g = placed-first q back x g
@@ -129,7 +129,7 @@ module _ (p : Place) (op : Op) (older : List Op) (x : Identifier) (front back : 
                 let lu' : Bx f.0 u ≡ true = (λ i. chain_before true Sx (ll i) (lu i)) ∙ common true Sx A [] (u ∷ []) in
                 elim (left_last f.0 f.1 u m) [ inl d ↦ loop f.0 u lu' (ap (λ z. Bx z f.0) d ∙ sym (ap (λ z. Bx f.0 z) d) ∙ lu') | inr k ↦ loop f.0 u lu' k ]
           ]
-          | inr m ↦ elim (first_of Bx r u rest (subst (IsOrderedBy Bx) is_back (all_pairs_behind (λ a b. Bx a b ≡ true) front back sorted)) (subst (λ l. Contains l u) is_back m)) [
+          | inr m ↦ elim (first_of Bx r u rest (subst (IsOrderedBy Bx) is_back (all_pairs_after (λ a b. Bx a b ≡ true) front back sorted)) (subst (λ l. Contains l u) is_back m)) [
             | inl d ↦ true≢false (sym ur ∙ ap (λ z. Bx z r) d ∙ before_in-irrefl (order p older) h r)
             | inr k ↦ loop u r ur k
           ]
@@ -187,7 +187,7 @@ module _ (p : Place) (op : Op) (older : List Op) (x : Identifier) (front back : 
     back_stays : (e : Identifier) → Contains back e → Bx e x ≡ false
     back_stays e m =
         false_from_ne_true (Bx e x) (λ j. loop x e
-        (elim (first_of Bx r e rest (subst (IsOrderedBy Bx) is_back (all_pairs_behind (λ a b. Bx a b ≡ true) front back sorted)) (subst (λ l. Contains l e) is_back m)) [
+        (elim (first_of Bx r e rest (subst (IsOrderedBy Bx) is_back (all_pairs_after (λ a b. Bx a b ≡ true) front back sorted)) (subst (λ l. Contains l e) is_back m)) [
           | inl d ↦ ap (Bx x) d ∙ right_goes
           | inr k ↦ before_in-trans (order p older) h x r e right_goes k
         ]) j)
@@ -203,34 +203,34 @@ module _ (p : Place) (op : Op) (older : List Op) (x : Identifier) (front back : 
       ∙ placed_between (λ e. Bx e x) front back x (all_from_contains (λ e. Bx e x ≡ true) front front_goes)
       (all_from_contains (λ e. Bx e x ≡ false) back (back_by (right_of op) refl))
 
--- an element whose right origin stands directly behind its left origin lands between them
+-- an element whose right origin stands directly after its left origin lands between them
 pub lands_behind : LandsBehind
 lands_behind p op older x front back w at e l r = lands p op older x front back w at e l r
 
--- a list, cut behind an origin
-record CutBehind (o : List Identifier) (l : Option Identifier) : Type 0 where
+-- a list, cut after an origin
+record CutAfter (o : List Identifier) (l : Option Identifier) : Type 0 where
   front : List Identifier
   back : List Identifier
   whole : o ≡ front ++ back
   ends : last_before front ≡ l
 
--- behind a member
+-- after a member
 pub cut_member : (o : List Identifier) (x : Identifier) (k : ℕ) → k < length o → slice_index_or o k x ≡ x → (f : List Identifier) × (b : List Identifier) × (o ≡ f ++ x ∷ b)
 cut_member [] x k l e = absurd (omega arith)
 cut_member (e ∷ es) x zero l d = ([], es, ap (λ z. z ∷ es) d)
 cut_member (e ∷ es) x (suc k) l d = let r = cut_member es x k (omega (arith, l)) d in (e ∷ r.0, r.1, ap (λ z. e ∷ z) r.2)
 
--- behind an origin
-cut_behind : (o : List Identifier) (l : Option Identifier) → IfSome l (λ x. Contains o x) → CutBehind o l
-cut_behind o None m = record { front = []; back = o; whole = refl; ends = refl }
-cut_behind o (Some x) m =
+-- after an origin
+cut_after : (o : List Identifier) (l : Option Identifier) → IfSome l (λ x. Contains o x) → CutAfter o l
+cut_after o None m = record { front = []; back = o; whole = refl; ends = refl }
+cut_after o (Some x) m =
     let r = cut_member o x m.0 m.1 m.2 in
     record { front = r.0 ++ x ∷ []; back = r.1; whole = r.2 ∙ sym (append_assoc r.0 (x ∷ []) r.1); ends = end_push r.0 x }
 
 -- the law by the element that follows
 pub lands_behind_origin : LandsBehindOrigin
 lands_behind_origin p op older x w at l r =
-    let c = cut_behind (order p older) (left_of op) l in
+    let c = cut_after (order p older) (left_of op) l in
     let e : left_of op ≡ last_before c.front = sym c.ends in
     let head : right_of op ≡ first_after c.back =
     r ∙ (λ i. following (c.whole i) (e i)) ∙ following_end c.front c.back (subst Distinct c.whole (order_total p older w.1).once) in

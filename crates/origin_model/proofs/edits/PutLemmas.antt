@@ -1,4 +1,4 @@
--- Elements of a put, and a section that is added: each is Ready in its turn, and they land directly behind the left
+-- Elements of a put, and a section that is added: each is Ready in its turn, and they land directly after the left
 -- origin, in the order in which they are made.
 use Rattle.origin_model.proofs.Words.{All-append, names, All, All-cons, All-nil, AllPairs, Bool, Identifier, IsIn, Lawful, List, None, Op, Option, Place, Ready, Section}
 use Rattle.origin_model.proofs.Words.{SectionRole, Some, Text, TextOf, [], ap, append-nil, append_assoc, arith, catalogue, contains_filter_from, drop, element_of, false}
@@ -11,7 +11,7 @@ use Rattle.origin_model.proofs.operations.ElementLemmas.{element_fits, none_else
 use Rattle.origin_model.proofs.operations.FoundedLemmas.{not_hidden_before}
 use Rattle.origin_model.proofs.order.{IsIn-older, Stands, order-member, order-none, order_total}
 use Rattle.origin_model.specs.edits.Edits.{Add, IsEdit, Put, ReadyInTurn, history_with, id_at, left_for, made, next_counter, put_in, right_for, typed_texts, typed_ids}
-use Rattle.origin_model.specs.edits.Landing.{StandsBehind, following, first_after}
+use Rattle.origin_model.specs.edits.Landing.{StandsAfter, following, first_after}
 use Rattle.fugue_ids.specs.Listed.{last_before}
 use Rattle.origin_model.proofs.edits.FreshIdLemmas.{NoneFrom, history_below, none_from}
 use Rattle.origin_model.proofs.edits.LandsBehindLemmas.{lands_behind}
@@ -100,7 +100,7 @@ typed_shown (ch ∷ chs) r c h w none =
 
 -- an edit whose elements land in the gap of the place `at`
 inserted : (p : Place) (h ops : List Op) (at : ℕ) (ids : List Identifier) (s : Split (is_shown h) (order p h) at) → All (λ x. is_shown h x ≡ true) ids
-    → Landed p h ops ids s.front s.back → IsEdit p h ops at 0 ids × StandsBehind (left_for p h at) ids (order p h) (order p (history_with h ops))
+    → Landed p h ops ids s.front s.back → IsEdit p h ops at 0 ids × StandsAfter (left_for p h at) ids (order p h) (order p (history_with h ops))
 inserted p h ops at ids s each l =
     let k : Identifier → Bool = is_shown h in
     let same : (q : Place) → shown q (history_with h ops) ≡ filter k (order q (history_with h ops)) = λ q. (λ i. filter (λ x. not (l.hidden x i)) (order q (history_with h ops))) in
@@ -125,7 +125,7 @@ inserted p h ops at ids s each l =
       },
     )
 
--- the right origin is the first behind the gap
+-- the right origin is the first after the gap
 right_is : (p : Place) (h : List Op) (at : ℕ) (s : Split (is_shown h) (order p h) at) → Lawful h → right_for p h at ≡ first_after s.back
 right_is p h at s w =
     let o : left_for p h at ≡ last_before s.front = sym (split_origin (is_shown h) (order p h) at s) in
@@ -139,7 +139,7 @@ shown_in p h k x w e = order-member p h x w (contains_filter_from (is_shown h) (
 -- a put in a section that is there
 put_in_lands : (r : ℕ) (h w : List Op) (s : Identifier) (at : ℕ) (new : List ℕ) → Lawful h → IsIn catalogue h s → at ≤ length (shown (within s) h)
     → IsEdit (within s) h (put_in r h w s at new) at 0 (typed_ids r (next_counter r h w) new)
-    × StandsBehind (left_for (within s) h at) (typed_ids r (next_counter r h w) new) (order (within s) h) (order (within s) (history_with h (put_in r h w s at new)))
+    × StandsAfter (left_for (within s) h at) (typed_ids r (next_counter r h w) new) (order (within s) h) (order (within s) (history_with h (put_in r h w s at new)))
 put_in_lands r h w s at new v m l =
     let p : Place = within s in
     let c : ℕ = next_counter r h w in
@@ -153,18 +153,18 @@ pub put_lands : (r : ℕ) (h w : List Op) (k at : ℕ) (new : List ℕ) (s : Ide
     → slice_get (shown catalogue h) k ≡ Some s → at ≤ length (shown (within s) h)
     → let ops = made r h w (Put k at new) in
     let ids = typed_ids r (next_counter r h w) new in
-    IsEdit (within s) h ops at 0 ids × StandsBehind (left_for (within s) h at) ids (order (within s) h) (order (within s) (history_with h ops))
+    IsEdit (within s) h ops at 0 ids × StandsAfter (left_for (within s) h at) ids (order (within s) h) (order (within s) (history_with h ops))
 put_lands r h w k at new s v e l =
     let c : List Identifier = typed_ids r (next_counter r h w) new in
     let ops : made r h w (Put k at new) ≡ put_in r h w s at new = ap (λ o. elim o [ None ↦ [] | Some s ↦ put_in r h w s at new ]) e in
-    subst (λ ops. IsEdit (within s) h ops at 0 c × StandsBehind (left_for (within s) h at) c (order (within s) h) (order (within s) (history_with h ops))) (sym ops)
+    subst (λ ops. IsEdit (within s) h ops at 0 c × StandsAfter (left_for (within s) h at) c (order (within s) h) (order (within s) (history_with h ops))) (sym ops)
     (put_in_lands r h w s at new v (shown_in catalogue h k s v e) l)
 
 -- a section lands where it was asked
 pub add_lands : (r : ℕ) (h w : List Op) (at : ℕ) (title : List ℕ) → Lawful h → at ≤ length (shown catalogue h)
     → let ops = made r h w (Add at title) in
     let ids = id_at r (next_counter r h w) ∷ [] in
-    IsEdit catalogue h ops at 0 ids × StandsBehind (left_for catalogue h at) ids (order catalogue h) (order catalogue (history_with h ops))
+    IsEdit catalogue h ops at 0 ids × StandsAfter (left_for catalogue h at) ids (order catalogue h) (order catalogue (history_with h ops))
 add_lands r h w at title v l =
     let c : ℕ = next_counter r h w in
     let x : Identifier = id_at r c in

@@ -4,7 +4,7 @@ use Rattle.origin_model.proofs.Words.{sym, true, within, ℕ, ◌+◌, ◌≡◌
 use Rattle.std.specs.Prelude.{nat_lt}
 use Rattle.std.proofs.lemmas.Bool.{ltb-false}
 use Rattle.origin_model.specs.edits.Edits.{Command, Put, Cut, Add, DropSection, IsEdit, ReadyInTurn, history_with, left_for}
-use Rattle.origin_model.specs.edits.Landing.{StandsBehind}
+use Rattle.origin_model.specs.edits.Landing.{StandsAfter}
 use Rattle.origin_model.specs.edits.Refusal.{added_ids, held_count, in_range, in_section, made_by, put_ids, refusal_message, refused_elements, refused_ops, section_shown}
 use Rattle.origin_model.specs.edits.Refusal.{shown_count}
 use Rattle.origin_model.specs.edits.Effect.{IsErased, IsInserted, IsSpliced, Lands, with_ops}
@@ -84,12 +84,12 @@ splices : (p : Place) (old new : State) (ops : List Op) (at n : ℕ) (ids : List
 splices p old new ops at n ids is e = subst (λ s. IsSpliced p old s at n ids) (sym is) (record { here = e.here; elsewhere = e.elsewhere })
 
 inserts : (p : Place) (old new : State) (ops : List Op) (at : ℕ) (ids : List Identifier) → new ≡ with_ops old ops
-    → IsEdit p old.held.history ops at 0 ids × StandsBehind (left_for p old.held.history at) ids (order p old.held.history) (order p (history_with old.held.history ops))
+    → IsEdit p old.held.history ops at 0 ids × StandsAfter (left_for p old.held.history at) ids (order p old.held.history) (order p (history_with old.held.history ops))
     → IsInserted p old new at ids
 inserts p old new ops at ids is lands =
     record {
       splices = splices p old new ops at 0 ids is lands.0;
-      behind = subst (λ (s : State). StandsBehind (left_for p old.held.history at) ids (order p old.held.history) (order p s.held.history)) (sym is) lands.1;
+      behind = subst (λ (s : State). StandsAfter (left_for p old.held.history at) ids (order p old.held.history) (order p s.held.history)) (sym is) lands.1;
     }
 
 erases : (p : Place) (old new : State) (ops : List Op) (at n : ℕ) → new ≡ with_ops old ops

@@ -1,11 +1,11 @@
--- A run goes in whole: each of its Texts is Ready in its turn, decides nothing that waits, and lands behind the one before.
+-- A run goes in whole: each of its Texts is Ready in its turn, decides nothing that waits, and lands after the one before.
 use Rattle.origin_model.proofs.Words.{All, All-append, All-cons, All-head, All-nil, All-tail, All-weaker, Contains, Identifier, Lawful, List, Op, Option, Place, Ready, Role}
-use Rattle.origin_model.proofs.Words.{SectionRole, Some, Text, TextOf, [], all_before, all_behind, all_from_contains, ap, append_assoc, arith, false, false_from_ne_true, flat_map}
+use Rattle.origin_model.proofs.Words.{SectionRole, Some, Text, TextOf, [], all_before, all_after, all_from_contains, ap, append_assoc, arith, false, false_from_ne_true, flat_map}
 use Rattle.origin_model.proofs.Words.{given_as, holder, holds, id_eq, id_eq-refl, is_own, is_some, left_of, length, map, names, nat_eq, ne-id_eq, ne_eqb, option_to_list, order}
 use Rattle.origin_model.proofs.Words.{refl, right_of, subst, suc, sym, true, true≢false, verdict, within, zero, ℕ, ◌++◌, ◌+◌, ◌-◌, ◌<◌, ◌∙◌, ◌∷◌, ◌≡◌, ◌≢◌, ◌≤◌}
-use Rattle.fugue_ids.specs.Runs.{id_behind, ids_in_a_row, in_a_row, left_behind, next_id, run_from, text_by}
+use Rattle.fugue_ids.specs.Runs.{id_after, ids_in_a_row, in_a_row, left_after, next_id, run_from, text_by}
 use Rattle.fugue_ids.specs.declared.run.RunStart.{RunStart}
-use Rattle.fugue_ids.proofs.RunLemmas.{left_one, length-typed, none_behind, one_behind}
+use Rattle.fugue_ids.proofs.RunLemmas.{left_one, length-typed, none_after, one_after}
 use Rattle.origin_model.specs.declared.taking.Tally.{Tally}
 use Rattle.origin_model.specs.edits.Edits.{ReadyInTurn, history_with, id_at}
 use Rattle.origin_model.specs.edits.RunLaws.{RunLands, RunsGoInWhole, TypedIsRun}
@@ -60,7 +60,7 @@ row_elsewhere id s l r (ch ∷ text) h p n =
 
 -- Each is Ready
 
--- a Text behind one that was just accepted
+-- a Text after one that was just accepted
 next_ready : (id s : Identifier) (l r : Option Identifier) (ch next : ℕ) (h : List Op) → Lawful (Text id s l r ch ∷ h) → holds (Text id s l r ch ∷ h) (next_id id) ≡ false
     → verdict (Text id s l r ch ∷ h) (Text (next_id id) s (Some id) r next) ≡ Ready
 next_ready id s l r ch next h w free =
@@ -78,16 +78,16 @@ next_ready id s l r ch next h w free =
     (All-append (Fits g) ((s, SectionRole) ∷ []) (given_as (TextOf s) (Some id)) home left) right) in
     becomes_ready g second (new_op g second (next_id id) w refl (id_eq-refl (next_id id)) free) free f.0 f.1
 
--- identifiers behind another are free once that is held
-free_behind : (id s : Identifier) (l r : Option Identifier) (ch : ℕ) (at : Identifier) (text : List ℕ) (h : List Op) → id.counter < at.counter
+-- identifiers after another are free once that is held
+free_after : (id s : Identifier) (l r : Option Identifier) (ch : ℕ) (at : Identifier) (text : List ℕ) (h : List Op) → id.counter < at.counter
     → All (λ x. holds h x ≡ false) (ids_in_a_row at text)
     → All (λ x. holds (Text id s l r ch ∷ h) x ≡ false) (ids_in_a_row at text)
-free_behind id s l r ch at [] h less f = All-nil (λ x. holds (Text id s l r ch ∷ h) x ≡ false)
-free_behind id s l r ch at (c ∷ text) h less f =
+free_after id s l r ch at [] h less f = All-nil (λ x. holds (Text id s l r ch ∷ h) x ≡ false)
+free_after id s l r ch at (c ∷ text) h less f =
     let apart : id ≢ at = λ d. omega (arith, less, ap (λ z. z.counter) d) in
     All-cons (λ x. holds (Text id s l r ch ∷ h) x ≡ false) at (ids_in_a_row (next_id at) text)
     (holds-other (Text id s l r ch) h at (ne-id_eq id at apart) ∙ All-head (λ x. holds h x ≡ false) at (ids_in_a_row (next_id at) text) f)
-    (free_behind id s l r ch (next_id at) text h (omega (arith, less)) (All-tail (λ x. holds h x ≡ false) at (ids_in_a_row (next_id at) text) f))
+    (free_after id s l r ch (next_id at) text h (omega (arith, less)) (All-tail (λ x. holds h x ≡ false) at (ids_in_a_row (next_id at) text) f))
 
 row_ready : (id s : Identifier) (l r : Option Identifier) (ch : ℕ) (text : List ℕ) (h : List Op) → Lawful h → verdict h (Text id s l r ch) ≡ Ready
     → All (λ x. holds h x ≡ false) (ids_in_a_row (next_id id) text)
@@ -95,7 +95,7 @@ row_ready : (id s : Identifier) (l r : Option Identifier) (ch : ℕ) (text : Lis
 row_ready id s l r ch [] h w ready f = (ready, tt)
 row_ready id s l r ch (next ∷ text) h w ready f =
     let first : Op = Text id s l r ch in
-    let g = free_behind id s l r ch (next_id id) (next ∷ text) h (omega arith) f in
+    let g = free_after id s l r ch (next_id id) (next ∷ text) h (omega arith) f in
     let P : Identifier → Type 0 = λ x. holds (first ∷ h) x ≡ false in (
       ready,
       row_ready (next_id id) s (Some id) r next text (first ∷ h) (ready, w)
@@ -113,7 +113,7 @@ unheld (o ∷ w) x a =
     let named : List Identifier = map (λ named. named.0) (names o) in
     let own : is_own x o ≡ false = false_from_ne_true _ (λ t. true≢false (sym (id_eq-refl x) ∙
     All-head P x named (subst (λ z. All P (option_to_list z ++ named)) (own_id o x t) (all_before P (mentioned_ids o) (flat_map mentioned_ids w) a)))) in
-    holds-other o w x own ∙ unheld w x (all_behind P (mentioned_ids o) (flat_map mentioned_ids w) a)
+    holds-other o w x own ∙ unheld w x (all_after P (mentioned_ids o) (flat_map mentioned_ids w) a)
 
 row_unknown : (id s : Identifier) (l r : Option Identifier) (text : List ℕ) (w : List Op) → All (λ x. Contains (flat_map mentioned_ids w) x → ⊥) (ids_in_a_row id text)
     → All (IsUnknown w) (in_a_row id s l r text)
@@ -155,14 +155,14 @@ record IsText (h : List Op) (x : Identifier) (left right : Option Identifier) : 
   right_is : right_of op ≡ right
 
 row_has : (id s : Identifier) (l r : Option Identifier) (text : List ℕ) (h : List Op) (k : ℕ) → Lawful (history_with h (in_a_row id s l r text)) → k < length text
-    → IsText (history_with h (in_a_row id s l r text)) (id_behind id k) (left_behind l id k) r
+    → IsText (history_with h (in_a_row id s l r text)) (id_after id k) (left_after l id k) r
 row_has id s l r [] h k w less = absurd (omega (arith, less))
 row_has id s l r (ch ∷ text) h zero w less =
     let first : Op = Text id s l r ch in
     let rest : List Op = in_a_row (next_id id) s (Some id) r text in
     record {
       op = first;
-      held = ap (holder (history_with (first ∷ h) rest)) (none_behind id) ∙ within_extended (first ∷ h) rest w id first (holder-own first h id (id_eq-refl id));
+      held = ap (holder (history_with (first ∷ h) rest)) (none_after id) ∙ within_extended (first ∷ h) rest w id first (holder-own first h id (id_eq-refl id));
       left_is = refl;
       right_is = refl;
     }
@@ -170,7 +170,7 @@ row_has id s l r (ch ∷ text) h (suc k) w less =
     let first : Op = Text id s l r ch in
     let g : List Op = history_with (first ∷ h) (in_a_row (next_id id) s (Some id) r text) in
     let there = row_has (next_id id) s (Some id) r text (first ∷ h) k w (omega (arith, less)) in
-    record { op = there.op; held = ap (holder g) (sym (one_behind id k)) ∙ there.held; left_is = there.left_is ∙ left_one id k; right_is = there.right_is }
+    record { op = there.op; held = ap (holder g) (sym (one_after id k)) ∙ there.held; left_is = there.left_is ∙ left_one id k; right_is = there.right_is }
 
 module _ (start : RunStart) (ch : ℕ) (text : List ℕ) (h : List Op) (w : Lawful (history_with h (run_from start (ch ∷ text)))) where
   abbrev g : List Op
@@ -196,19 +196,19 @@ module _ (start : RunStart) (ch : ℕ) (text : List ℕ) (h : List Op) (w : Lawf
       (λ i. record { depth = length (sym l i); forest = length (sym r i) - 1 })
       ∙ newest_key first h start.id (id_eq-refl start.id)
 
-  deeper : (k : ℕ) → k < length text → (depth_of g (id_behind start.id (suc k)) ≡ suc (depth_of g (id_behind start.id k))) × (forest_of g (id_behind start.id (suc k)) ≡ 0)
+  deeper : (k : ℕ) → k < length text → (depth_of g (id_after start.id (suc k)) ≡ suc (depth_of g (id_after start.id k))) × (forest_of g (id_after start.id (suc k)) ≡ 0)
   deeper k less =
       let a = row_has start.id start.section start.left start.right (ch ∷ text) h k w (omega (arith, less)) in
       let b = row_has start.id start.section start.left start.right (ch ∷ text) h (suc k) w (omega (arith, less)) in
-      run_key g (id_behind start.id k) (id_behind start.id (suc k)) a.op b.op w a.held b.held b.left_is (b.right_is ∙ sym a.right_is)
+      run_key g (id_after start.id k) (id_after start.id (suc k)) a.op b.op w a.held b.held b.left_is (b.right_is ∙ sym a.right_is)
 
-  depth_behind : (k : ℕ) → k ≤ length text → depth_of g (id_behind start.id k) ≡ depth_of g start.id + k
-  depth_behind zero less = let e : depth_of g start.id ≡ depth_of g start.id + 0 = omega arith in ap (depth_of g) (none_behind start.id) ∙ e
-  depth_behind (suc k) less = let d = (deeper k (omega (arith, less))).0 in let e = depth_behind k (omega (arith, less)) in omega (arith, d, e)
+  depth_after : (k : ℕ) → k ≤ length text → depth_of g (id_after start.id k) ≡ depth_of g start.id + k
+  depth_after zero less = let e : depth_of g start.id ≡ depth_of g start.id + 0 = omega arith in ap (depth_of g) (none_after start.id) ∙ e
+  depth_after (suc k) less = let d = (deeper k (omega (arith, less))).0 in let e = depth_after k (omega (arith, less)) in omega (arith, d, e)
 
-  pub later_keys : (k : ℕ) → k < length text → search_key_of g (id_behind start.id (suc k)) ≡ record { depth = suc (depth_above h start.left) + suc k; forest = 0 }
+  pub later_keys : (k : ℕ) → k < length text → search_key_of g (id_after start.id (suc k)) ≡ record { depth = suc (depth_above h start.left) + suc k; forest = 0 }
   later_keys k less =
-      let d = depth_behind (suc k) (omega (arith, less)) in
+      let d = depth_after (suc k) (omega (arith, less)) in
       let e : depth_of g start.id ≡ suc (depth_above h start.left) = ap (λ z. z.depth) first_key in
       let f = (deeper k less).1 in
       λ i. record { depth = (d ∙ ap (λ z. z + suc k) e) i; forest = f i }

@@ -94,15 +94,15 @@ split keep (e ∷ es) (suc k) l =
 pub split_origin : (keep : Identifier → Bool) (o : List Identifier) (at : ℕ) (s : Split keep o at) → last_before s.front ≡ in_front (filter keep o) at
 split_origin keep o at s = ends_origin s.front (filter keep o) at s.ends
 
--- what follows the last of the front is the first behind it, in a list of distinct members
+-- what follows the last of the front is the first after it, in a list of distinct members
 abbrev pub Distinct : List Identifier → Type 0
 Distinct xs = AllPairs (λ x y. x ≢ y) xs
 
--- behind the first member
+-- after the first member
 follow-own : (e : Identifier) (es : List Identifier) → following (e ∷ es) (Some e) ≡ first_after es
 follow-own e es = ap (λ b. if b then first_after es else following es (Some e)) (id_eq-refl e)
 
--- behind a later member
+-- after a later member
 follow-other : (e l : Identifier) (es : List Identifier) → id_eq e l ≡ false → following (e ∷ es) (Some l) ≡ following es (Some l)
 follow-other e l es k = ap (λ b. if b then first_after es else following es (Some l)) k
 
@@ -148,7 +148,7 @@ get_in [] k x e = cc
 get_in (y ∷ xs) zero x e = let d : y ≡ x = cc in subst (Contains (y ∷ xs)) d (contains_here y xs)
 get_in (y ∷ xs) (suc k) x e = contains_there y xs x (get_in xs k x e)
 
--- a list is its members before the place, the one there, and those behind
+-- a list is its members before the place, the one there, and those after
 pub get_split : (xs : List Identifier) (k : ℕ) (x : Identifier) → slice_get xs k ≡ Some x → xs ≡ take k xs ++ x ∷ drop (suc k) xs
 get_split [] k x e = cc
 get_split (y ∷ xs) zero x e = let d : y ≡ x = cc in ap (λ z. z ∷ xs) d

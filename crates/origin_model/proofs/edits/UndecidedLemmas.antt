@@ -1,6 +1,6 @@
 -- The operations of an edit decide nothing that waits.
 use Rattle.origin_model.proofs.Words.{All, All-cons, All-head, All-nil, All-tail, Bool, Delete, Identifier, List, None, Op, Option, Role, Section, Some, Text, [], all_before}
-use Rattle.origin_model.proofs.Words.{all_behind, all_from_contains, all_from_map, arith, catalogue, drop, false, false≢true, first_line, first_missing, first_stray, fits}
+use Rattle.origin_model.proofs.Words.{all_after, all_from_contains, all_from_map, arith, catalogue, drop, false, false≢true, first_line, first_missing, first_stray, fits}
 use Rattle.origin_model.proofs.Words.{flat_map, has_op, id_held, id_of, if◌then◌else◌, is_own, map, names, op_eq, option_to_list, or_right, refl, shown, slice_get, suc, take, true}
 use Rattle.origin_model.proofs.Words.{verdict, within, ℕ, ◌∙◌, ◌∷◌, ◌≡◌, ◌≤◌}
 use Rattle.std.proofs.Math.Nat.{le_refl}
@@ -49,7 +49,7 @@ undecided_one : (op : Op) (h : List Op) (o : Op) → All (λ i. is_own i op ≡ 
 unfolding verdict
 undecided_one op h o a e =
     let P : Identifier → Type 0 = λ i. is_own i op ≡ false in
-    let apart : Apart op (names o) = all_from_map (λ named. named.0) P (names o) (all_behind P (option_to_list (id_of o)) (map (λ named. named.0) (names o)) a) in
+    let apart : Apart op (names o) = all_from_map (λ named. named.0) P (names o) (all_after P (option_to_list (id_of o)) (map (λ named. named.0) (names o)) a) in
     (λ i. is_decided (first_line (has_op (op ∷ h) o) (id_held (op ∷ h) (id_of o)) (stray_same op h (names o) apart i) (missing_same op h (names o) apart i)))
     ∙ undecided_line (has_op h o) (id_held h (id_of o)) (has_op (op ∷ h) o) (id_held (op ∷ h) (id_of o)) (first_stray h (names o)) (first_missing h (names o))
     (or_right (op_eq op o) (has_op h o)) (id_stays op h (id_of o)) e
@@ -66,7 +66,7 @@ stays op h w u a = each w u.1 a
     each [] u a = All-nil (λ o. decided_on (op ∷ h) o ≡ false)
     each (o ∷ w) u a =
         let P : Identifier → Type 0 = λ i. is_own i op ≡ false in
-        let rest = each w (all_behind P (mentioned_ids o) (flat_map mentioned_ids w) u) (All-tail (λ z. decided_on h z ≡ false) o w a) in
+        let rest = each w (all_after P (mentioned_ids o) (flat_map mentioned_ids w) u) (All-tail (λ z. decided_on h z ≡ false) o w a) in
         All-cons (λ z. decided_on (op ∷ h) z ≡ false) o w
         (undecided_one op h o (all_before P (mentioned_ids o) (flat_map mentioned_ids w) u) (All-head (λ z. decided_on h z ≡ false) o w a)) rest
 

@@ -1,4 +1,4 @@
--- A file by its parts: a new one, one with a further batch, and one with other bytes behind its gate.
+-- A file by its parts: a new one, one with a further batch, and one with other bytes after its gate.
 use Rattle.origin_model.proofs.Words.{All, All-append, All-cons, All-nil, List, [], ap, append-nil, append_assoc, arith, drop, length, length-append, length-take-le, refl, suc}
 use Rattle.origin_model.proofs.Words.{sym, take, take-append-drop, true, ℕ, ◌&&◌, ◌++◌, ◌+◌, ◌<◌, ◌^◌, ◌∙◌, ◌∷◌, ◌≡◌, ◌≢◌, ◌≤◌}
 use Rattle.std.proofs.Common.{nat_le}
@@ -75,7 +75,7 @@ with_gate bytes content p =
     let at : suc content.at ≡ length p.head + (length slots + 1) = omega (arith, ap (λ z. z.at) p.content_is, p.long) in
     (λ i. take (at i) (p.split i)) ∙ take-append-add p.head (slots ++ p.gate ∷ p.rest) (length slots + 1) ∙ ap (λ z. p.head ++ z) (take-append-add slots (p.gate ∷ p.rest) 1)
 
--- bytes behind the gate count for nothing
+-- bytes after the gate count for nothing
 pub same_to_gate : (bytes other : List ℕ) (content : Content) → HasImage bytes (Holds content) → take (suc content.at) other ≡ take (suc content.at) bytes
     → HasImage other (Holds content)
 same_to_gate bytes other content h e =
@@ -103,7 +103,7 @@ abbrev pub with_batch : Content → Batch → Content
 with_batch content batch =
     record { replica = content.replica; hold = content.hold; ops = content.ops ++ batch.ops; at = content.at + length (open_slot batch); slots = content.slots + 1 }
 
--- a batch that is written in the place of the gate, open, with another gate than 1 behind it, is the file's last
+-- a batch that is written in the place of the gate, open, with another gate than 1 after it, is the file's last
 pub batch_appended : (bytes : List ℕ) (content : Content) (new : Batch) (gate : ℕ) (rest : List ℕ) → HasImage bytes (Holds content) → IsBatch new
     → content.slots < last_slot → gate ≢ 1 → HasImage (take content.at bytes ++ (open_slot new ++ gate ∷ rest)) (Holds (with_batch content new))
 batch_appended bytes content new gate rest h is few closed =

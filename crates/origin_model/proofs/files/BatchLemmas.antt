@@ -12,10 +12,10 @@ use Rattle.origin_model.specs.frames.Frames.{Reads, Whole}
 use Rattle.origin_model.specs.frames.Framings.{frames}
 
 -- lists with fronts of one length are equal in front
-pub same_front : (xs ys vs ws : List ℕ) → length xs ≡ length vs → xs ++ ys ≡ vs ++ ws → xs ≡ vs
-same_front xs ys vs ws l e = sym (take-append_seam xs ys) ∙ (λ i. take (l i) (e i)) ∙ take-append_seam vs ws
+pub common_prefix : (xs ys vs ws : List ℕ) → length xs ≡ length vs → xs ++ ys ≡ vs ++ ws → xs ≡ vs
+common_prefix xs ys vs ws l e = sym (take-append_seam xs ys) ∙ (λ i. take (l i) (e i)) ∙ take-append_seam vs ws
 
--- and behind it
+-- and after it
 pub same_rest : (xs ys vs ws : List ℕ) → length xs ≡ length vs → xs ++ ys ≡ vs ++ ws → ys ≡ ws
 same_rest xs ys vs ws l e = sym (drop-append_seam xs ys) ∙ (λ i. drop (l i) (e i)) ∙ drop-append_seam vs ws
 
@@ -50,9 +50,9 @@ word_is b more h = ap (from_be_bytes w32) ((λ i. take (sym h.four_bytes i) (b.w
 pub length_is : (b : Batch) (more : List ℕ) → IsBatch b → length_at 0 (b.word ++ more) ≡ length b.bytes
 length_is b more h = ap word_length (word_is b more h) ∙ h.counts
 
--- what stands behind the word
-pub behind_word : (b : Batch) (more : List ℕ) → IsBatch b → drop 4 (b.word ++ more) ≡ more
-behind_word b more h = (λ i. drop (sym h.four_bytes i) (b.word ++ more)) ∙ drop-append_seam b.word more
+-- what stands after the word
+pub after_word : (b : Batch) (more : List ℕ) → IsBatch b → drop 4 (b.word ++ more) ≡ more
+after_word b more h = (λ i. drop (sym h.four_bytes i) (b.word ++ more)) ∙ drop-append_seam b.word more
 
 -- a tag is that of one grammar
 pub one_grammar : (g h : Grammar) → tag_of g ≡ tag_of h → g ≡ h
@@ -66,10 +66,10 @@ pub same_batch : ((grammar : Grammar) (bytes : List ℕ) (ops others : List Op) 
     → (b c : Batch) (ys zs : List ℕ) → IsBatch b → IsBatch c → b.word ++ (b.bytes ++ ys) ≡ c.word ++ (c.bytes ++ zs) → (b ≡ c) × (ys ≡ zs)
 same_batch once b c ys zs h k e =
     let four : length b.word ≡ length c.word = h.four_bytes ∙ sym k.four_bytes in
-    let word : b.word ≡ c.word = same_front b.word (b.bytes ++ ys) c.word (c.bytes ++ zs) four e in
+    let word : b.word ≡ c.word = common_prefix b.word (b.bytes ++ ys) c.word (c.bytes ++ zs) four e in
     let more : b.bytes ++ ys ≡ c.bytes ++ zs = same_rest b.word (b.bytes ++ ys) c.word (c.bytes ++ zs) four e in
     let len : length b.bytes ≡ length c.bytes = sym h.counts ∙ ap (λ w. word_length (from_be_bytes w32 w)) word ∙ k.counts in
-    let bytes : b.bytes ≡ c.bytes = same_front b.bytes ys c.bytes zs len more in
+    let bytes : b.bytes ≡ c.bytes = common_prefix b.bytes ys c.bytes zs len more in
     let grammar : b.grammar ≡ c.grammar = one_grammar b.grammar c.grammar (sym h.tagged ∙ ap (λ w. word_tag (from_be_bytes w32 w)) word ∙ k.tagged) in
     let reads : Reads c.grammar c.bytes b.ops Whole = subst (λ g. Reads g c.bytes b.ops Whole) grammar (subst (λ z. Reads b.grammar z b.ops Whole) bytes h.reads) in
     let ops : b.ops ≡ c.ops = once c.grammar c.bytes b.ops c.ops reads k.reads in

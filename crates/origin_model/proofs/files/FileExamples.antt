@@ -98,7 +98,7 @@ empty_batch =
     batch_appended (new_file 1 16) (record { replica = 1; hold = 16; ops = []; at = 13; slots = 0 }) (batch_of []) 0 [] new_file_is_empty
     (is_batch [] (singles_read Version2 [] (All-nil HasFrame)) (omega arith)) (omega arith) (λ e. omega (arith, e))
 
--- but not without a byte behind it, nor with another tag
+-- but not without a byte after it, nor with another tag
 empty_batch_at_the_end : HasImage (header 1 16 ++ 1 ∷ 0 ∷ 0 ∷ 0 ∷ 0 ∷ []) (BadBatch 0)
 empty_batch_at_the_end = (
   refl,

@@ -8,7 +8,7 @@ use Rattle.origin_model.specs.files.Image.{NoWord, NotReplica, OpenSlots, TooLon
 use Rattle.origin_model.specs.files.Image.{word_tag}
 use Rattle.origin_model.specs.declared.grammar.Grammar.{Grammar}
 use Rattle.origin_model.specs.frames.Frames.{Reads, Whole}
-use Rattle.origin_model.proofs.files.BatchLemmas.{behind_word, length_is, one_grammar, same_batch, word_is}
+use Rattle.origin_model.proofs.files.BatchLemmas.{after_word, length_is, one_grammar, same_batch, word_is}
 use Rattle.std.proofs.lemmas.List.{nil_from_length}
 
 -- bytes are read in one way
@@ -20,37 +20,37 @@ pub data Ends (slot : ℕ) (rest : List ℕ) : Type 0 where
   Closed : (gate : ℕ) (more : List ℕ) → rest ≡ gate ∷ more → gate ≢ 1 → Ends slot rest
   Bad : (more : List ℕ) → rest ≡ 1 ∷ more → IsNoBatch slot more → Ends slot rest
 
--- a batch with a byte behind it is no fault
+-- a batch with a byte after it is no fault
 no_fault : (slot : ℕ) (b : Batch) (more bytes : List ℕ) → IsBatch b → more ≢ [] → slot < last_slot → bytes ≡ b.word ++ (b.bytes ++ more) → IsNoBatch slot bytes → ⊥
 no_fault slot b more bytes h n l e (NoWord k) = omega (arith, k, ap length e, length-append b.word (b.bytes ++ more), h.four_bytes)
 no_fault slot b more bytes h n l e (NoTag none) = none b.grammar (ap (λ z. word_tag (number_at 0 z)) e ∙ ap word_tag (word_is b (b.bytes ++ more) h) ∙ h.tagged)
 no_fault slot b more bytes h n l e (TooLong k) = omega (arith, k, h.short, ap (length_at 0) e ∙ length_is b (b.bytes ++ more) h)
 no_fault slot b more bytes h n l e (CutShort k) =
-    omega (arith, k, ap (length_at 0) e ∙ length_is b (b.bytes ++ more) h, ap length (ap (drop 4) e ∙ behind_word b (b.bytes ++ more) h), length-append b.bytes more)
+    omega (arith, k, ap (length_at 0) e ∙ length_is b (b.bytes ++ more) h, ap length (ap (drop 4) e ∙ after_word b (b.bytes ++ more) h), length-append b.bytes more)
 no_fault slot b more bytes h n l e (NoFrames grammar tagged none) =
     let whole : take (length_at 0 bytes) (drop 4 bytes) ≡ b.bytes =
-    (λ i. take ((ap (length_at 0) e ∙ length_is b (b.bytes ++ more) h) i) ((ap (drop 4) e ∙ behind_word b (b.bytes ++ more) h) i)) ∙ take-append_seam b.bytes more in
+    (λ i. take ((ap (length_at 0) e ∙ length_is b (b.bytes ++ more) h) i) ((ap (drop 4) e ∙ after_word b (b.bytes ++ more) h) i)) ∙ take-append_seam b.bytes more in
     let same : b.grammar ≡ grammar =
     one_grammar b.grammar grammar (sym h.tagged ∙ sym (ap word_tag (word_is b (b.bytes ++ more) h)) ∙ sym (ap (λ z. word_tag (number_at 0 z)) e) ∙ tagged) in
     none b.ops (subst (λ g. Reads g (take (length_at 0 bytes) (drop 4 bytes)) b.ops Whole) same (subst (λ z. Reads b.grammar z b.ops Whole) (sym whole) h.reads))
 no_fault slot b more bytes h n l e (NoGate k) =
     n (nil_from_length more
-    (omega (arith, k, ap (length_at 0) e ∙ length_is b (b.bytes ++ more) h, ap length (ap (drop 4) e ∙ behind_word b (b.bytes ++ more) h), length-append b.bytes more)))
+    (omega (arith, k, ap (length_at 0) e ∙ length_is b (b.bytes ++ more) h, ap length (ap (drop 4) e ∙ after_word b (b.bytes ++ more) h), length-append b.bytes more)))
 no_fault slot b more bytes h n l e (LastSlot k) = omega (arith, k, l)
 
--- no open slot with a byte behind it stands where the open slots end
+-- no open slot with a byte after it stands where the open slots end
 pub no_open_slot : (slot : ℕ) (b : Batch) (more rest : List ℕ) → IsBatch b → more ≢ [] → slot < last_slot → rest ≡ open_slot b ++ more → Ends slot rest → ⊥
 no_open_slot slot b more rest h n l e (Closed gate others d closed) = let one : gate ≡ 1 = cc (sym d ∙ e) in closed one
 no_open_slot slot b more rest h n l e (Bad others d bad) =
     let behind : others ≡ (b.word ++ b.bytes) ++ more = cc (sym d ∙ e) in
     no_fault slot b more others h n l (behind ∙ append_assoc b.word b.bytes more) bad
 
--- a byte stands behind open slots
+-- a byte stands after open slots
 pub slots_not_empty : (bs : List Batch) (rest : List ℕ) → rest ≢ [] → open_slots bs ++ rest ≢ []
 slots_not_empty [] rest n e = n e
 slots_not_empty (b ∷ bs) rest n e = cc e
 
--- the first open slot and what stands behind it
+-- the first open slot and what stands after it
 first_slot : (b : Batch) (bs : List Batch) (rest : List ℕ) → open_slots (b ∷ bs) ++ rest ≡ open_slot b ++ (open_slots bs ++ rest)
 first_slot b bs rest = append_assoc (open_slot b) (open_slots bs) rest
 

@@ -30,7 +30,7 @@ tag_decided tag = elim (cases_eq tag 0) [
     other more much Version1 = more
     other more much Version2 = much
 
--- a batch with bytes behind it stands in front
+-- a batch with bytes after it stands in front
 record Stands (slot : ℕ) (bytes : List ℕ) : Type 0 where
   batch : Batch
   behind : List ℕ
@@ -39,7 +39,7 @@ record Stands (slot : ℕ) (bytes : List ℕ) : Type 0 where
   gate : behind ≢ []
   few : slot < last_slot
 
--- behind the gate of an open slot stands a batch with bytes behind it, or none
+-- after the gate of an open slot stands a batch with bytes after it, or none
 opened : ReadSome → (slot : ℕ) (bytes : List ℕ) → slot ≤ last_slot → IsNoBatch slot bytes ⊎ Stands slot bytes
 opened some slot bytes l =
     let n : ℕ = length_at 0 bytes in

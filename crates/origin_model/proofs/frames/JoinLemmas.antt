@@ -1,4 +1,4 @@
--- A stream behind another one is read behind it.
+-- A stream after another one is read after it.
 use Rattle.origin_model.proofs.Words.{All-append, List, ap, append-nil, append_assoc, arith, flat_map, length, length-append, sym, ℕ, ◌++◌, ◌+◌, ◌∙◌, ◌≡◌}
 use Rattle.std.proofs.lemmas.Grind.{flat_map-append}
 use Rattle.origin_model.specs.declared.grammar.Grammar.{Grammar}

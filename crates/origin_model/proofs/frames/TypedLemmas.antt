@@ -2,8 +2,8 @@
 use Rattle.origin_model.proofs.Words.{Identifier, List, Op, Option, Some, Text, [], ap, arith, length, map, refl, sym, ℕ, ◌++◌, ◌<◌, ◌∙◌, ◌∷◌, ◌≡◌, ◌≤◌}
 use Rattle.origin_model.specs.frames.Frames.{Run, run_ops}
 use Rattle.origin_model.specs.frames.Framings.{next_text, run_more, scalar_in}
-use Rattle.fugue_ids.specs.Runs.{id_behind, in_a_row, left_behind, next_id}
-use Rattle.fugue_ids.proofs.RunLemmas.{left_one, length-typed, none_behind, one_behind, typed-append}
+use Rattle.fugue_ids.specs.Runs.{id_after, in_a_row, left_after, next_id}
+use Rattle.fugue_ids.proofs.RunLemmas.{left_one, length-typed, none_after, one_after, typed-append}
 
 pub length-run : (run : Run) → length (run_ops run) ≡ length run.text
 length-run run = length-typed run.id run.section run.left run.right run.text
@@ -16,19 +16,19 @@ typed_scalars id s l r (c ∷ text) = ap (λ z. c ∷ z) (typed_scalars (next_id
 pub typed_more : (run : Run) (ch : ℕ) → run_ops (run_more run ch) ≡ run_ops run ++ next_text run ch ∷ []
 typed_more run ch = typed-append run.id run.section run.left run.right run.text (ch ∷ [])
 
--- the operation behind Texts that a longer text has there
+-- the operation after Texts that a longer text has there
 next_is : (id s : Identifier) (l r : Option Identifier) (t u : List ℕ) (op : Op) (rest behind : List Op) → in_a_row id s l r t ++ op ∷ rest ≡ in_a_row id s l r u ++ behind
     → length t < length u
-    → (ch : ℕ) × (op ≡ Text (id_behind id (length t)) s (left_behind l id (length t)) r ch)
+    → (ch : ℕ) × (op ≡ Text (id_after id (length t)) s (left_after l id (length t)) r ch)
 next_is id s l r [] [] op rest behind same less = absurd (omega (arith, less))
 next_is id s l r (d ∷ t) [] op rest behind same less = absurd (omega (arith, less))
 next_is id s l r [] (c ∷ u) op rest behind same less =
     let first : op ≡ Text id s l r c = cc same in
-    (c, first ∙ λ i. Text (sym (none_behind id) i) s l r c)
+    (c, first ∙ λ i. Text (sym (none_after id) i) s l r c)
 next_is id s l r (d ∷ t) (c ∷ u) op rest behind same less =
     let tails : in_a_row (next_id id) s (Some id) r t ++ op ∷ rest ≡ in_a_row (next_id id) s (Some id) r u ++ behind = cc same in
     let found = next_is (next_id id) s (Some id) r t u op rest behind tails (omega (arith, less)) in
-    (found.0, found.1 ∙ λ i. Text (one_behind id (length t) i) s (left_one id (length t) i) r found.0)
+    (found.0, found.1 ∙ λ i. Text (one_after id (length t) i) s (left_one id (length t) i) r found.0)
 
 -- the same first Text
 record SameStart (v w : Run) : Type 0 where

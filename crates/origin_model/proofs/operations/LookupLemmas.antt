@@ -1,6 +1,6 @@
 -- What a look-up in a history finds, and what one more operation changes in it; what a Ready operation names is held and fits.
 use Rattle.origin_model.proofs.Words.{All, All-cons, All-head, All-nil, All-tail, Bool, Identifier, Lawful, List, None, Op, Option, Place, Ready, Role, Some, [], all_before}
-use Rattle.origin_model.proofs.Words.{all_behind, ap, cases_Bool, false, false_from_ne_true, false≢true, first_line, first_missing, first_stray, fits, given_as, has_op, holder}
+use Rattle.origin_model.proofs.Words.{all_after, ap, cases_Bool, false, false_from_ne_true, false≢true, first_line, first_missing, first_stray, fits, given_as, has_op, holder}
 use Rattle.origin_model.proofs.Words.{holds, id_held, id_of, if◌then◌else◌, inl, inr, is_own, is_some, left_of, names, not_some, older_of, op_eq, op_eq-refl, op_eq-true, or_cases}
 use Rattle.origin_model.proofs.Words.{or_left, or_right, origin_eq-true, refl, reverse, reverse-append, right_at, right_of, subst, sym, true, true≢false, verdict, ◌++◌, ◌||◌, ◌∙◌}
 use Rattle.origin_model.proofs.Words.{◌∷◌, ◌≡◌, ◌⊎◌}
@@ -197,8 +197,8 @@ element_ready h op e w k =
     let front : All (Fits h) (home_names e.0 ++ lefts) = all_before (Fits h) (home_names e.0 ++ lefts) rights all in
     record {
       home = all_before (Fits h) (home_names e.0) lefts front;
-      left = all_behind (Fits h) (home_names e.0) lefts front;
-      right = all_behind (Fits h) (home_names e.0 ++ lefts) rights all;
+      left = all_after (Fits h) (home_names e.0) lefts front;
+      right = all_after (Fits h) (home_names e.0 ++ lefts) rights all;
     }
 
 -- an origin among them

@@ -1,6 +1,6 @@
 -- Lists and their parts: fronts and ends, and members of lists that are ordered.
 use Rattle.origin_model.proofs.Words.{All, All-contains, All-tail, All-weaker, Bool, Contains, Contains-append_cases, Identifier, IsOrderedBy, List, [], all_pairs_before}
-use Rattle.origin_model.proofs.Words.{all_pairs_behind, all_pairs_head, all_pairs_tail, append-nil, contains_cases, contains_here, contains_middle_cases, contains_none, false}
+use Rattle.origin_model.proofs.Words.{all_pairs_after, all_pairs_head, all_pairs_tail, append-nil, contains_cases, contains_here, contains_middle_cases, contains_none, false}
 use Rattle.origin_model.proofs.Words.{filter, inl, inr, refl, subst, sym, true, true≢false, ◌++◌, ◌∙◌, ◌∷◌, ◌≡◌, ◌≢◌, ◌⊎◌}
 use Rattle.fugue_ids.proofs.ListLemmas.{all_pairs_across, all_pairs_append}
 
@@ -78,7 +78,7 @@ module _ (R : Identifier → Identifier → Bool) where
         | inr k ↦ inr (front_before front (v ∷ []) r v o (subst (λ l. Contains l r) (append-nil front) k) (contains_here v []))
       ]
 
-  -- each member is the first one or stands behind it
+  -- each member is the first one or stands after it
   pub first_of : (v r : Identifier) (rest : List Identifier) → IsOrderedBy R (v ∷ rest) → Contains (v ∷ rest) r → (r ≡ v) ⊎ (R v r ≡ true)
   first_of v r rest o m = elim (contains_cases v rest r m) [ inl d ↦ inl (sym d) | inr k ↦ inr (first_before v r rest o k) ]
 
@@ -86,7 +86,7 @@ module _ (R : Identifier → Identifier → Bool) where
   pub ordered_out : (xs ys : List Identifier) (x : Identifier) → IsOrderedBy R (xs ++ x ∷ ys) → IsOrderedBy R (xs ++ ys)
   ordered_out xs ys x o =
       let T : Identifier → Identifier → Type 0 = λ a b. R a b ≡ true in
-      all_pairs_append T xs ys (all_pairs_before T xs (x ∷ ys) o) (all_pairs_tail T x ys (all_pairs_behind T xs (x ∷ ys) o))
+      all_pairs_append T xs ys (all_pairs_before T xs (x ∷ ys) o) (all_pairs_tail T x ys (all_pairs_after T xs (x ∷ ys) o))
       (All-weaker (λ z. All (T z) (x ∷ ys)) (λ z. All (T z) ys) (λ z. All-tail (T z) x ys) xs (all_pairs_across T xs (x ∷ ys) o))
 
   -- a member of a list in a strict order stands in it once
@@ -94,5 +94,5 @@ module _ (R : Identifier → Identifier → Bool) where
   once_mid irrefl xs ys x o m =
       elim (Contains-append_cases xs ys x m) [
         | inl k ↦ true≢false (sym (front_before xs (x ∷ ys) x x o k (contains_here x ys)) ∙ irrefl x)
-        | inr k ↦ true≢false (sym (first_before x x ys (all_pairs_behind (λ a b. R a b ≡ true) xs (x ∷ ys) o) k) ∙ irrefl x)
+        | inr k ↦ true≢false (sym (first_before x x ys (all_pairs_after (λ a b. R a b ≡ true) xs (x ∷ ys) o) k) ∙ irrefl x)
       ]

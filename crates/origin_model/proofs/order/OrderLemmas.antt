@@ -21,7 +21,7 @@ pub order-none : (p : Place) (op : Op) (older : List Op) → element_of p op ≡
 unfolding order
 order-none p op older e = rw (e, order)
 
--- an element of the place goes in behind those that stand before it
+-- an element of the place goes in after those that stand before it
 pub order-some : (p : Place) (op : Op) (older : List Op) (x : Identifier) → element_of p op ≡ Some x
     → order p (op ∷ older) ≡ placed (λ e. before_in (order p older) (op ∷ older) e x) (order p older) x
 unfolding order
@@ -272,7 +272,7 @@ module _ (R : Identifier → Identifier → Bool) (trans : (a b c : Identifier) 
       let k = counted_in es i (all_pairs_tail T e es o) below h in
       omega arith
 
-  -- what does not stand before x is behind them
+  -- what does not stand before x is after them
   counted_out : (xs : List Identifier) (i : ℕ) → IsOrderedBy R xs → i < length xs → R (get_or xs i d) x ≡ false → count_by (λ e. R e x) xs ≤ i
   counted_out [] i o l h = absurd (omega (arith, l))
   counted_out (e ∷ es) zero o l h = let n = none_pass (λ y. R y x) (e ∷ es) (none_before R trans x e es h o) in omega arith
@@ -283,10 +283,10 @@ module _ (R : Identifier → Identifier → Bool) (trans : (a b c : Identifier) 
       ]
 
 module _ (finished : List Identifier) (h : List Op) (x d : Identifier) (i : ℕ) (o : IsOrderedBy (before_in finished h) finished) (l : i < length finished) where
-  -- a search that found an element before x goes on behind it
+  -- a search that found an element before x goes on after it
   pub stands_before : before_in finished h (get_or finished i d) x ≡ true → i < count_by (λ e. before_in finished h e x) finished
   stands_before = counted_in (before_in finished h) (before_in-trans finished h) x d finished i o l
 
   -- a search that found another goes on in front of it
-  pub stands_behind : before_in finished h (get_or finished i d) x ≡ false → count_by (λ e. before_in finished h e x) finished ≤ i
-  stands_behind = counted_out (before_in finished h) (before_in-trans finished h) x d finished i o l
+  pub stands_after : before_in finished h (get_or finished i d) x ≡ false → count_by (λ e. before_in finished h e x) finished ≤ i
+  stands_after = counted_out (before_in finished h) (before_in-trans finished h) x d finished i o l

@@ -1,4 +1,4 @@
--- Lists whose members stand in a transitive order: one more member goes in behind those that stand before it, and two
+-- Lists whose members stand in a transitive order: one more member goes in after those that stand before it, and two
 -- such lists with the same members are equal.
 use Rattle.origin_model.proofs.Words.{All, All-cons, All-head, All-nil, All-tail, All-weaker, Bool, Contains, Identifier, IsOrderedBy, List, [], all_insert, all_pairs_head}
 use Rattle.origin_model.proofs.Words.{all_pairs_nil, all_pairs_tail, ap, arith, cases_Bool, cond, contains_cases, contains_here, contains_none, contains_there, count_by, drop}

@@ -64,7 +64,7 @@ abbrev pub Stands : Option Identifier → List Identifier → Type 0
 Stands None o = Unit {0}
 Stands (Some x) o = Contains o x
 
--- the end has the index behind all members
+-- the end has the index after all members
 pub index_end : (o : List Identifier) → index_of_origin o None ≡ length o
 index_end [] = refl
 index_end (e ∷ es) = omega (arith, index_end es)

@@ -1,4 +1,4 @@
--- A piece that comes in two parts: the relay ends as behind the whole piece, and the reply to the whole comes with one of the parts.
+-- A piece that comes in two parts: the relay ends as after the whole piece, and the reply to the whole comes with one of the parts.
 use Rattle.origin_model.proofs.Words.{Bool, List, None, Option, Some, [], ap, cond, false, inl, inr, refl, subst, sym, true, ℕ, ◌++◌, ◌∙◌, ◌∷◌, ◌≡◌, ◌⊎◌}
 use Rattle.std.specs.Cmp.{eq_by_cmp_equiv, nat_cmp_total}
 use Rattle.std.specs.FinMap as finite

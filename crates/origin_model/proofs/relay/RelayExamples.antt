@@ -158,7 +158,7 @@ unfolding encode
 answers_have_41_and_19_bytes = (refl, refl)
 
 -- a cursor of 3 is beyond a log of two frames: the session is refused at the fourth byte of the cursor, and what the
--- piece brings behind it counts for nothing
+-- piece brings after it counts for nothing
 cursor_beyond : TakesAll many (hello 3 ++ frame A) (record { log = both; next = Goes unread }) (session_refused both 3)
 cursor_beyond = takes-append many (hello 3) (frame A) (record { log = both; next = Goes unread }) (session_refused both 3) (session_refused both 3)
     (hello_takes many both 3 (omega arith)) (closed_takes many (frame A) both (refusal_message 3))
@@ -222,7 +222,7 @@ no_greeting = (
   (session_refused [] 1, refl, closed_takes many (0x48 ∷ []) [] (refusal_message 1)),
 )
 
--- the four bytes behind the first
+-- the four bytes after the first
 next_four : List ℕ → List ℕ
 next_four bytes = take 4 (drop 1 bytes)
 
@@ -241,7 +241,7 @@ no_replica_0 (Single (Delete target)) more h e = let d : 3 ≡ 2 = ap first e in
 no_replica_0 (Single (Note id named code body)) more h e = let d : 5 ≡ 2 = ap first e in omega (arith, d)
 no_replica_0 (Typed run) more h e = let d : 4 ≡ 2 = ap first e in omega (arith, d)
 
--- bytes behind a whole message that no frame begins with are none of a message
+-- bytes after a whole message that no frame begins with are none of a message
 no_message : (bytes : List ℕ) → ((item : Item) (more : List ℕ) → IsItem Version2 item → item_bytes item ≡ bytes ++ more → ⊥) → bytes ≢ closing → IsKind Neither bytes
 no_message bytes none apart = (
   λ ops f. none f.item [] f.is_item (sym f.bytes_are ∙ sym (append-nil bytes)),
@@ -249,7 +249,7 @@ no_message bytes none apart = (
   apart,
 )
 
--- a byte that begins no message is refused, and what the piece brings behind it counts for nothing
+-- a byte that begins no message is refused, and what the piece brings after it counts for nothing
 no_such_message : TakesAll many (6 ∷ closing) (session_goes_on both 0) (session_refused both 1)
 no_such_message =
     (session_refused both 1, (Neither, no_message (6 ∷ []) (λ item more h e. no_frame_with_6 item more e) (λ e. cc e), refl), closed_takes many closing both (refusal_message 1))

@@ -1,4 +1,4 @@
--- Runs of events: one event more, and one run behind another.
+-- Runs of events: one event more, and one run after another.
 use Rattle.origin_model.proofs.Words.{List, None, Option, Some, [], ap, if◌then◌else◌, is_some, map, refl, subst, sym, ℕ, ◌++◌, ◌∷◌, ◌≡◌}
 use Rattle.std.specs.FinMap as finite
 use Rattle.origin_model.specs.declared.relay.Event.{Event}
@@ -7,7 +7,7 @@ use Rattle.origin_model.specs.declared.relay.Event.TheVariants.{Opened, Piece}
 use Rattle.origin_model.specs.relay.Relay.{IsRelayState, Relay, RelayRuns, RelaySteps, StepsPiece, new_relay, reply_of, sessions_after}
 use Rattle.origin_model.specs.relay.Session.{Goes, SessionReading, Taken, TakesAll, unread}
 
--- one run behind another
+-- one run after another
 pub runs-append : (xs ys : List Event) (a b c : Relay) (ps qs : List (Option Reply)) → RelayRuns a xs b ps → RelayRuns b ys c qs → RelayRuns a (xs ++ ys) c (ps ++ qs)
 runs-append [] ys a b c ps qs h i = subst (λ s. RelayRuns s ys c (ps ++ qs)) h.0 (subst (λ r. RelayRuns b ys c r) (sym (ap (λ r. r ++ qs) h.1)) i)
 runs-append (x ∷ xs) ys a b c ps qs h i = (h.0, h.1, h.2 ++ qs, h.3, runs-append xs ys h.0 b c h.2 qs h.4 i, ap (λ r. r ++ qs) h.5)

@@ -1,4 +1,4 @@
--- Texts: pieces are read as their bytes joined, a frame is taken at its last byte, and bytes behind the one that closes
+-- Texts: pieces are read as their bytes joined, a frame is taken at its last byte, and bytes after the one that closes
 -- a session count for nothing.
 use Rattle.origin_model.proofs.Words.{List, Some, [], ap, append-nil, append_assoc, arith, length, refl, subst, sym, ℕ, ◌++◌, ◌<◌, ◌^◌, ◌∙◌, ◌∷◌, ◌≡◌}
 use Rattle.std.proofs.lemmas.Nat.{from_be_bytes-to_be_bytes_4}
@@ -19,12 +19,12 @@ pub closed_takes : (limit : ℕ) (bytes : List ℕ) (log : List (List ℕ)) (rep
 closed_takes limit [] log reply = refl
 closed_takes limit (byte ∷ bytes) log reply = (record { log = log; next = Closes reply }, refl, closed_takes limit bytes log reply)
 
--- a session behind a cursor, with these bytes of a message
+-- a session after a cursor, with these bytes of a message
 abbrev pub partly : List (List ℕ) → ℕ → List ℕ → Taken
 partly log cursor rest = record { log = log; next = Goes (record { cursor = Some cursor; rest = rest }) }
 
 module _ (framed : Framed) (is : IsFrame Version2 framed) where
-  -- bytes with more behind them in a frame
+  -- bytes with more after them in a frame
   pub front_of : (xs : List ℕ) (y : ℕ) (ys : List ℕ) → framed.bytes ≡ xs ++ y ∷ ys → IsPartial Version2 xs
   front_of xs y ys e = record { framed = framed; is_frame = is; more = y ∷ ys; lacks = omega arith; front = e }
 
@@ -43,7 +43,7 @@ module _ (framed : Framed) (is : IsFrame Version2 framed) where
         next_front xs [] z zs e = front_of xs z zs e
         next_front xs (y ∷ ys) z zs e = front_of xs y (ys ++ z ∷ zs) e
 
-    -- the bytes y and ys, behind the bytes xs of a frame, end it
+    -- the bytes y and ys, after the bytes xs of a frame, end it
     pub rest_takes : (ys xs : List ℕ) (y : ℕ) → framed.bytes ≡ xs ++ y ∷ ys → TakesAll limit (y ∷ ys) (partly log cursor xs) (log_joined limit log cursor framed.ops)
     rest_takes [] xs y e = (
       log_joined limit log cursor framed.ops,
@@ -54,7 +54,7 @@ module _ (framed : Framed) (is : IsFrame Version2 framed) where
         let split : framed.bytes ≡ (xs ++ y ∷ []) ++ z ∷ zs = e ∙ sym (append_assoc xs (y ∷ []) (z ∷ zs)) in
         (partly log cursor (xs ++ y ∷ []), (Front, front_of (xs ++ y ∷ []) z zs split, refl), rest_takes zs (xs ++ y ∷ []) z split)
 
-    -- a frame that comes behind a whole message is taken at its last byte
+    -- a frame that comes after a whole message is taken at its last byte
     pub frame_takes : TakesAll limit framed.bytes (partly log cursor []) (log_joined limit log cursor framed.ops)
     frame_takes = by framed.bytes refl
       where
@@ -83,6 +83,6 @@ hello_takes limit log cursor fits =
       ),
     )
 
--- the closing byte behind a whole message is answered
+-- the closing byte after a whole message is answered
 pub closing_takes : (limit cursor : ℕ) (log : List (List ℕ)) → TakesAll limit closing (partly log cursor []) (record { log = log; next = Closes (reply_from log cursor) })
 closing_takes limit cursor log = (record { log = log; next = Closes (reply_from log cursor) }, (Closing, refl, refl), refl)

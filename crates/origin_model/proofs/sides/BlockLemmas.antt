@@ -10,7 +10,7 @@ use Rattle.origin_model.specs.sides.Keys.{depth_of, forest_of, search_key_of, ke
 use Rattle.origin_model.proofs.operations.LookupLemmas.{IsHeld}
 use Rattle.origin_model.proofs.order.{IsIn-held, before_at, before_in-irrefl, before_in-trans, chain-ends, chain_above, chain_before-fork, common, lefts-above, lefts-in}
 use Rattle.origin_model.proofs.order.{lefts-prefix, order-has, parts, parts_late, rights-in, rights-prefix, same_chain, sibling-irrefl, sibling-trans}
-use Rattle.origin_model.proofs.sides.ChainLengthLemmas.{cut, forest-rights, len, len-append, more, same_front}
+use Rattle.origin_model.proofs.sides.ChainLengthLemmas.{cut, forest-rights, len, len-append, more, common_prefix}
 use Rattle.origin_model.proofs.sides.KeyedListLemmas.{is_deep}
 use Rattle.origin_model.proofs.sides.SlotLemmas.{IsThere, left_there}
 use Rattle.origin_model.proofs.sides.SpineLemmas.{IsFirstIn, IsLastIn}
@@ -43,7 +43,7 @@ module _ (p : Place) (h : List Op) (w : Lawful h) where
   abbrev pub To : Identifier → Identifier → Type 0
   To a b = (a ≡ b) ⊎ (R a b ≡ true)
 
-  -- what does not stand before b does not stand behind it
+  -- what does not stand before b does not stand after it
   pub no_turn : (a b : Identifier) → To a b → R b a ≡ true → ⊥
   no_turn a b (inl d) k = true≢false (sym k ∙ ap (R b) d ∙ irrefl b)
   no_turn a b (inr j) k = loop a b j k
@@ -68,7 +68,7 @@ module _ (p : Place) (h : List Op) (w : Lawful h) where
     held_s : IsHeld h s
     held_s = IsIn-held p h s ms
 
-    -- s does not stand behind the last
+    -- s does not stand after the last
     pub from_s : To s y
     from_s = l.last s ms ([], sym (append-nil (lefts h s)))
 
@@ -94,7 +94,7 @@ module _ (p : Place) (h : List Op) (w : Lawful h) where
               grind (arith, nat_tests))
         ]) q.1
 
-    -- what is deeper than s behind the block stands behind another that is behind the block
+    -- what is deeper than s after the block stands after another that is after the block
     pub next_block : (e : Identifier) → IsIn p h e → R y e ≡ true → is_deep (depth_of h s) (keyed_as h e) ≡ true → Between y e
     next_block e m k j =
         let le : lefts h s ≡ chain_above next_left h (left_at h s) ++ s ∷ [] = lefts-above h s w held_s in
@@ -115,7 +115,7 @@ module _ (p : Place) (h : List Op) (w : Lawful h) where
           | x ∷ xs ↦ (λ i. (λ q. chain_before true S (sym (append-nil (lefts h z)) q) (i q)) ∙ common true S (lefts h z) [] (x ∷ xs))
         ]) whole in
         let yz : R y z ≡ true = elim (parts_late true S (lefts h z) (lefts h y)) [
-          | inl q ↦ absurd (same (same_front (lefts h z) (lefts h s) q.0 l.under.0 size (sym q.1 ∙ l.under.1)))
+          | inl q ↦ absurd (same (common_prefix (lefts h z) (lefts h s) q.0 l.under.0 size (sym q.1 ∙ l.under.1)))
           | inr g ↦ sym (g c.more) ∙ ap (chain_before true S (lefts h y)) (sym whole) ∙ k
         ] in
         record { middle = z; member = order-has p h z mz; behind = yz; before = ze }
@@ -132,7 +132,7 @@ module _ (p : Place) (h : List Op) (w : Lawful h) where
     abbrev A : List Identifier
     A = chain_above next_left h (left_at h q)
 
-    -- the chain of right origins of y goes on behind that of q
+    -- the chain of right origins of y goes on after that of q
     abbrev my : List Identifier
     my = f.under.0
 
@@ -147,7 +147,7 @@ module _ (p : Place) (h : List Op) (w : Lawful h) where
     pub depth_like : (e : Identifier) → lefts h e ≡ A ++ e ∷ [] → depth_of h e ≡ depth_of h q
     depth_like e i = ap len i ∙ more A e ∙ sym depth_q
 
-    -- the first is not behind q
+    -- the first is not after q
     pub to_q : To y q
     to_q = elim (f.first q q [] [] mq lq (sym (append-nil (rights h q)))) [ inl d ↦ inl (sym d) | inr k ↦ inr k ]
 
@@ -226,7 +226,7 @@ module _ (p : Place) (h : List Op) (w : Lawful h) where
         (subst (λ t. Contains t l) (sym (lq ∙ ap (λ o. chain_above next_left h o ++ q ∷ []) i ∙ ap (λ c. c ++ q ∷ []) r.1 ∙ append_assoc r.0 (l ∷ []) (q ∷ [])))
         (contains_middle r.0 l (q ∷ [])))
 
-    -- what stands before the block and not behind the left origin of q stands before that left origin
+    -- what stands before the block and not after the left origin of q stands before that left origin
     below_left : (e : Identifier) → R e y ≡ true → ((zs : List Identifier) → chain_before true S (lefts h e) (A ++ zs) ≡ chain_before true S (lefts h e) A)
         → (o : Option Identifier) → left_at h q ≡ o → Lower (search_key_of h q) e y
     below_left e k g o i =
@@ -281,7 +281,7 @@ module _ (p : Place) (h : List Op) (w : Lawful h) where
         let ne : e ≢ y = λ d. true≢false (sym k ∙ ap (λ z. R z y) d ∙ irrefl y) in
         let sey : S e y ≡ true = sym ((λ z. chain_before true S (le z) (f.same_left z)) ∙ common true S A (e ∷ []) (y ∷ []) ∙ chain_before-fork true S e y [] [] ne) ∙ k in
         let suy : S u y ≡ true = elim (parts false F (rights h u) (rights h y)) [
-          | inl r ↦ absurd (same (same_front (rights h u) (rights h q) r.0 my size (sym r.1 ∙ f.under.1)))
+          | inl r ↦ absurd (same (common_prefix (rights h u) (rights h q) r.0 my size (sym r.1 ∙ f.under.1)))
           | inr g ↦ ap (λ t. chain_before false F t (rights h y)) (sym (append-nil (rights h u))) ∙ g [] ∙ sym (g c.more)
               ∙ ap (λ t. chain_before false F t (rights h y)) (sym whole) ∙ sey
         ] in
@@ -298,7 +298,7 @@ module _ (p : Place) (h : List Op) (w : Lawful h) where
           low = grind (arith, nat_tests);
         }
 
-    -- the same for what stands behind the left origin of q
+    -- the same for what stands after the left origin of q
     beside : (e : Identifier) → IsIn p h e → R e y ≡ true → is_deep (depth_of h q) (keyed_as h e) ≡ false → key_lt (search_key_of h q) (search_key_of h e) ≡ true
         → (o : List Identifier) → lefts h e ≡ A ++ o → Lower (search_key_of h q) e y
     beside e m k j v [] i =

@@ -46,7 +46,7 @@ module _ (next : List Op → Op → Option Identifier) where
         | inr k ↦ omega (arith, ap len (chain-other next op older x k), chain-bound older x)
       ]
 
--- a list with n members and one more behind them
+-- a list with n members and one more after them
 pub record Cut (n : ℕ) (xs : List Identifier) : Type 0 where
   pub front : List Identifier
   pub member : Identifier
@@ -63,14 +63,14 @@ cut (suc n) (x ∷ xs) k =
     record { front = x ∷ c.front; member = c.member; more = c.more; whole = ap (λ t. x ∷ t) c.whole; size = ap suc c.size }
 
 -- fronts of one length of one list are equal
-pub same_front : (xs ys as' bs : List Identifier) → len xs ≡ len ys → xs ++ as' ≡ ys ++ bs → xs ≡ ys
-same_front [] [] as' bs l e = refl
-same_front [] (y ∷ ys) as' bs l e = absurd (omega arith)
-same_front (x ∷ xs) [] as' bs l e = absurd (omega arith)
-same_front (x ∷ xs) (y ∷ ys) as' bs l e =
+pub common_prefix : (xs ys as' bs : List Identifier) → len xs ≡ len ys → xs ++ as' ≡ ys ++ bs → xs ≡ ys
+common_prefix [] [] as' bs l e = refl
+common_prefix [] (y ∷ ys) as' bs l e = absurd (omega arith)
+common_prefix (x ∷ xs) [] as' bs l e = absurd (omega arith)
+common_prefix (x ∷ xs) (y ∷ ys) as' bs l e =
     let a : x ≡ y = cc in
     let b : xs ++ as' ≡ ys ++ bs = cc in
-    let r : xs ≡ ys = same_front xs ys as' bs (omega arith) b in
+    let r : xs ≡ ys = common_prefix xs ys as' bs (omega arith) b in
     λ i. a i ∷ r i
 
 -- a chain that ends in v and is longer by one than a front of it is that front and v

@@ -30,7 +30,7 @@ gap_of n ns =
     let s : Slot = slot_by (as_ops ns) n.left n.right in
     gap_by_keys (keyed_order ns) s (slot_key (as_ops ns) s) (goes_before (node_order ns) (as_ops ns) (as_op n) n.id)
 
--- three letters, each typed behind the one before
+-- three letters, each typed after the one before
 abbrev typed : List Node
 typed = node (id 1 2) (at 1 1) None ∷ node (id 1 1) (at 1 0) None ∷ node (id 1 0) None None ∷ []
 
@@ -38,7 +38,7 @@ typed_keys : keyed_order typed ≡ keyed_by (id 1 0) 1 0 ∷ keyed_by (id 1 1) 2
 unfolding chain order
 typed_keys = refl
 
--- B at the end; A and D before B; X and Y behind A, X before B and Y before D
+-- B at the end; A and D before B; X and Y after A, X before B and Y before D
 abbrev concurrent : List Node
 concurrent =
     node (id 2 1) (at 1 1) (at 2 0) ∷ node (id 3 0) (at 1 1) (at 1 0) ∷ node (id 2 0) None (at 1 0) ∷ node (id 1 1) None (at 1 0) ∷ node (id 1 0) None None ∷ []
@@ -49,7 +49,7 @@ concurrent_keys :
 unfolding chain order
 concurrent_keys = refl
 
--- a letter at each end of the list; behind X, which has an earlier sibling's place to itself; before D, behind the earlier one
+-- a letter at each end of the list; after X, which has an earlier sibling's place to itself; before D, after the earlier one
 -- sibling A and its block
 concurrent_gaps :
     (gap_of (node (id 4 0) None (at 1 1)) concurrent ≡ Before (id 1 1)) × (gap_of (node (id 4 0) (at 1 0) None) concurrent ≡ After (id 1 0))
@@ -58,7 +58,7 @@ concurrent_gaps :
 unfolding chain order
 concurrent_gaps = (refl, refl, refl, refl, refl, refl)
 
--- P, C behind P, and Q at the start: the block of Q begins at Q, though P is the last before Q whose key is no greater
+-- P, C after P, and Q at the start: the block of Q begins at Q, though P is the last before Q whose key is no greater
 abbrev apart : List Node
 apart = node (id 2 0) None None ∷ node (id 1 1) (at 1 0) None ∷ node (id 1 0) None None ∷ []
 

@@ -1,6 +1,6 @@
 -- Blocks in the order: the list falls into parts at the two ends of a block, and the searches by keys end there.
 use Rattle.origin_model.proofs.Words.{All-contains, Contains, Contains-append_cases, Contains-append_left, Contains-append_right, Identifier, IsIn, IsOrderedBy, Lawful, List, Op}
-use Rattle.origin_model.proofs.Words.{Place, Some, [], all_pairs_before, all_pairs_behind, ap, append-nil, append_assoc, cases_Bool, contains_here, contains_middle, contains_none}
+use Rattle.origin_model.proofs.Words.{Place, Some, [], all_pairs_before, all_pairs_after, ap, append-nil, append_assoc, cases_Bool, contains_here, contains_middle, contains_none}
 use Rattle.origin_model.proofs.Words.{contains_there, false, false_from_ne_true, inl, inr, not, order, refl, subst, sym, true, true≢false, ◌++◌, ◌∙◌, ◌∷◌, ◌≡◌}
 use Rattle.std.specs.Prelude.{unwrap_or}
 use Rattle.std.proofs.lemmas.List.{map-append}
@@ -20,7 +20,7 @@ use Rattle.origin_model.proofs.sides.KeyedListLemmas.{deep_high, first_head, fla
 use Rattle.origin_model.proofs.sides.KeyedListLemmas.{PartedLow}
 use Rattle.origin_model.proofs.sides.SpineLemmas.{IsFirstIn, IsLastIn}
 
--- a member with what stands before it and behind it
+-- a member with what stands before it and after it
 pub split_member : (xs : List Identifier) (x : Identifier) → Contains xs x → (front : List Identifier) × (back : List Identifier) × (xs ≡ front ++ x ∷ back)
 split_member xs x m = cut_member xs x m.0 m.1 m.2
 
@@ -77,7 +77,7 @@ module _ (p : Place) (h : List Op) (w : Lawful h) where
         whole = parts;
         last = (c.0, sym d.2);
         inside = λ e m. (
-          first_before (before_at p h) s e d.1 (all_pairs_behind T d.0 (s ∷ d.1) ds) m,
+          first_before (before_at p h) s e d.1 (all_pairs_after T d.0 (s ∷ d.1) ds) m,
           up e (subst (λ t. Contains t e) (sym d.2) (Contains-append_right d.0 (s ∷ d.1) e (contains_there s d.1 e m))),
         );
         stop = λ x xs e.
@@ -88,7 +88,7 @@ module _ (p : Place) (h : List Op) (w : Lawful h) where
             let b = next_block p h w s y ms l x (order-member p h x w mx) yx k in
             elim (Contains-append_cases Z (x ∷ xs) b.middle (subst (λ t. Contains t b.middle) (whole ∙ ap (λ t. Z ++ t) e) b.member)) [
               | inl m ↦ no_turn p h w b.middle y (up b.middle m) b.behind
-              | inr m ↦ elim (first_of (before_at p h) x b.middle xs (all_pairs_behind T Z (x ∷ xs) xo) m) [
+              | inr m ↦ elim (first_of (before_at p h) x b.middle xs (all_pairs_after T Z (x ∷ xs) xo) m) [
                 | inl i ↦ true≢false (sym b.before ∙ ap (λ z. before_at p h z x) i ∙ irrefl p h w x)
                 | inr i ↦ loop p h w x b.middle i b.before
               ]
@@ -121,7 +121,7 @@ module _ (p : Place) (h : List Op) (w : Lawful h) where
         | inr k ↦
             let my : Contains c.0 y = elim (Contains-append_cases c.0 (q ∷ c.1) y (subst (λ t. Contains t y) c.2 (order-has p h y f.member))) [
               | inl m ↦ m
-              | inr m ↦ absurd (elim (first_of (before_at p h) q y c.1 (all_pairs_behind T c.0 (q ∷ c.1) co) m) [
+              | inr m ↦ absurd (elim (first_of (before_at p h) q y c.1 (all_pairs_after T c.0 (q ∷ c.1) co) m) [
                 | inl i ↦ true≢false (sym k ∙ ap (λ z. before_at p h z q) i ∙ irrefl p h w q)
                 | inr i ↦ loop p h w y q k i
               ])
@@ -135,7 +135,7 @@ module _ (p : Place) (h : List Op) (w : Lawful h) where
               whole = c.2 ∙ ap (λ t. t ++ q ∷ c.1) d.2;
               first = (d.1 ++ q ∷ c.1, refl);
               inside = λ e m. (
-                elim (first_of (before_at p h) y e d.1 (all_pairs_behind T d.0 (y ∷ d.1) fs) m) [ inl i ↦ inl (sym i) | inr i ↦ inr i ],
+                elim (first_of (before_at p h) y e d.1 (all_pairs_after T d.0 (y ∷ d.1) fs) m) [ inl i ↦ inl (sym i) | inr i ↦ inr i ],
                 front_before (before_at p h) c.0 (q ∷ c.1) e q co (subst (λ t. Contains t e) (sym d.2) (Contains-append_right d.0 (y ∷ d.1) e m)) (contains_here q c.1),
               );
             }
@@ -147,7 +147,7 @@ module _ (p : Place) (h : List Op) (w : Lawful h) where
     pub fits_at : (x : Identifier) → Contains o x → IsFit (keyed_as h x)
     fits_at x m = All-contains (λ z. IsFit (keyed_as h z)) o x (all_from_map (keyed_as h) IsFit o fit) m
 
-    -- what stands behind s and no deeper begins behind its block
+    -- what stands after s and no deeper begins after its block
     pub end_low : (s y : Identifier) (ms : IsIn p h s) (l : IsLastIn p h s y) (r : EndParts s y)
         → first_low (widest (depth_of h s)) (rest_of (Some s) (with_keys h o)) ≡ first_after r.after
     end_low s y ms l r =
@@ -199,7 +199,7 @@ module _ (p : Place) (h : List Op) (w : Lawful h) where
           ∙ ap (λ t. t ++ q ∷ r.back) (append_assoc b.front b.back r.inner)
           ∙ append_assoc b.front (b.back ++ r.inner) (q ∷ r.back)
 
-      -- what stands behind it
+      -- what stands after it
       pub start_rest : rest_of (last_low k (front_of (Some q) (with_keys h o))) (with_keys h o) ≡ with_keys h ((b.back ++ r.inner) ++ q ∷ r.back)
       start_rest =
           ap (λ t. rest_of t (with_keys h o)) start_low
@@ -220,7 +220,7 @@ module _ (p : Place) (h : List Op) (w : Lawful h) where
                 let l = lower_block p h w q y mq f x mx xy j (high_over k (keyed_as h x) (b.high x m)) in
                 absurd (elim (Contains-append_cases r.front (y ∷ r.first.0) l.middle (subst (λ t. Contains t l.middle) whole l.member)) [
                   | inr n ↦ no_turn p h w y l.middle
-                      (elim (first_of (before_at p h) y l.middle r.first.0 (all_pairs_behind T r.front (y ∷ r.first.0) wo) n) [ inl i ↦ inl (sym i) | inr i ↦ inr i ]) l.before
+                      (elim (first_of (before_at p h) y l.middle r.first.0 (all_pairs_after T r.front (y ∷ r.first.0) wo) n) [ inl i ↦ inl (sym i) | inr i ↦ inr i ]) l.before
                   | inl n ↦ elim (Contains-append_cases b.front b.back l.middle (subst (λ t. Contains t l.middle) b.whole n)) [
                     | inr i ↦ true≢false (sym (high_over k (keyed_as h l.middle) (b.high l.middle i)) ∙ l.low)
                     | inl i ↦

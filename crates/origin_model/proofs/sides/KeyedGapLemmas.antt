@@ -10,7 +10,7 @@ use Rattle.fugue_ids.specs.declared.key.Gap.{Gap}
 use Rattle.origin_model.specs.declared.sides.Slot.{Slot}
 use Rattle.origin_model.specs.declared.sides.Slot.TheVariants.{LeftOf, RightOf}
 use Rattle.origin_model.specs.sides.KeyLaws.{AllFit, BlockEndByKeys, BlockStartByKeys, EndsBlock, GapByKeys, StandsAt}
-use Rattle.origin_model.specs.sides.KeyedGap.{before_all, block_end, gap_behind, gap_by_keys, no_earlier_gap, siblings, slot_key}
+use Rattle.origin_model.specs.sides.KeyedGap.{before_all, block_end, gap_after, gap_by_keys, no_earlier_gap, siblings, slot_key}
 use Rattle.origin_model.specs.sides.Keys.{with_keys}
 use Rattle.origin_model.specs.sides.Slot.{BeforeBlock, HasEarlierSibling, IsChild, IsGap, NoEarlierSibling, goes_before, slot_of}
 use Rattle.origin_model.proofs.edits.SplitLemmas.{end_none, end_split}
@@ -133,14 +133,14 @@ module _ (p : Place) (h : List Op) (w : Lawful h) (fit : AllFit p h) where
   with_elders s (z ∷ zs) ys front e g i k = k
 
   -- the gap, by the last earlier sibling
-  gap_by : (s : Slot) → StandsAt p h s → (es ys : List Identifier) → children s ≡ es ++ ys → IsGap children s es ys (gap_behind keys s (slot_key h s) (last_before es))
+  gap_by : (s : Slot) → StandsAt p h s → (es ys : List Identifier) → children s ≡ es ++ ys → IsGap children s es ys (gap_after keys s (slot_key h s) (last_before es))
   gap_by s m es ys c =
       elim (cases_origin (last_before es)) [
         | inl l ↦
             let none : es ≡ [] = end_none es l in
             let g : Gap = no_earlier_gap keys s (slot_key h s) in
             let here : NoEarlierSibling children s ys g = subst (λ t. NoEarlierSibling children s t g) (c ∙ ap (λ t. t ++ ys) none) (no_earlier_sibling s m) in
-            subst (λ o. IsGap children s es ys (gap_behind keys s (slot_key h s) o)) (sym l) (subst (λ t. IsGap children s t ys g) (sym none) here)
+            subst (λ o. IsGap children s es ys (gap_after keys s (slot_key h s) o)) (sym l) (subst (λ t. IsGap children s t ys g) (sym none) here)
         | inr l ↦
             let t = has_table p h w in
             let e : Identifier = l.0 in
@@ -149,8 +149,8 @@ module _ (p : Place) (h : List Op) (w : Lawful h) (fit : AllFit p h) where
             let ke : IsChild p h s e = t.sound s e (subst (λ x. Contains x e) (sym c) (Contains-append_left es ys e ine)) in
             let b = block_end_by_keys p h children e w fit t (child-in p h s e ke) in
             let at = subst (λ n. EndsBlock children e (block_end keys n e)) (child-depth p h w fit s e m ke) b in
-            subst (λ o. IsGap children s es ys (gap_behind keys s (slot_key h s) o)) (sym l.1)
-            (with_elders s es ys split.0 e (gap_behind keys s (slot_key h s) (Some e)) split.1
+            subst (λ o. IsGap children s es ys (gap_after keys s (slot_key h s) o)) (sym l.1)
+            (with_elders s es ys split.0 e (gap_after keys s (slot_key h s) (Some e)) split.1
             (record { front = split.0; earlier_sibling = e; is_last = split.1; path = at.path; below = at.below }))
       ]
 
@@ -196,5 +196,5 @@ gap_by_keys_is_place p op older x w at fit =
     let whole : table_of p older s ≡ r.earlier ++ r.later = sym same ∙ r.whole in
     gap_is_place p op older x (table_of p older) r.earlier r.later (gap_by_keys (with_keys older o) s (slot_key older s) g) w at t
     (record { whole = whole; earlier_sibling = r.earlier_sibling; later_sibling = r.later_sibling })
-    (subst (λ e. IsGap (table_of p older) s r.earlier r.later (gap_behind (with_keys older o) s (slot_key older s) e)) (sym r.last)
+    (subst (λ e. IsGap (table_of p older) s r.earlier r.later (gap_after (with_keys older o) s (slot_key older s) e)) (sym r.last)
     (gap_by p older w.1 fit s m r.earlier r.later whole))

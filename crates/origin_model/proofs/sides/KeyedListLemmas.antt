@@ -40,7 +40,7 @@ pub none_kept : (g : Keyed → Bool) (es : List Keyed) → All (λ e. g e ≡ fa
 none_kept g [] f = refl
 none_kept g (e ∷ es) f = dropped g e es (All-head (λ z. g z ≡ false) e es f) ∙ none_kept g es (All-tail (λ z. g z ≡ false) e es f)
 
--- the first element whose key is at most k, behind some whose keys are not
+-- the first element whose key is at most k, after some whose keys are not
 pub first_found : (k : Key) (front back : List Keyed) (e : Keyed) → All (λ z. is_low k z ≡ false) front → is_low k e ≡ true → first_low k (front ++ e ∷ back) ≡ Some e.id
 first_found k front back e f j =
     ap first_id (filter-append (is_low k) front (e ∷ back) ∙ ap (λ t. t ++ filter (is_low k) (e ∷ back)) (none_kept (is_low k) front f) ∙ kept (is_low k) e back j)
@@ -88,7 +88,7 @@ module _ (h : List Op) where
       ∙ ap (λ t. filter (is_low k) (with_keys h xs) ++ t) (kept (is_low k) (keyed_as h e) [] j))
       ∙ last_push (filter (is_low k) (with_keys h xs)) (keyed_as h e)
 
-  -- a list, parted behind the last whose key is at most k
+  -- a list, parted after the last whose key is at most k
   pub record PartedLow (k : Key) (xs : List Identifier) : Type 0 where
     pub front : List Identifier
     pub back : List Identifier
@@ -142,7 +142,7 @@ module _ (h : List Op) where
     other xs ys x o =
         all_keyed h (λ z. z.id ≢ x) xs (λ z m e. true≢false (sym (front_before R xs (x ∷ ys) z x o m (contains_here x ys)) ∙ ap (λ a. R a x) e ∙ irrefl x))
 
-    -- what stands behind x
+    -- what stands after x
     pub rest_ids : (xs ys : List Identifier) (x : Identifier) → IsOrderedBy R (xs ++ x ∷ ys) → rest_of (Some x) (with_keys h (xs ++ x ∷ ys)) ≡ with_keys h ys
     rest_ids xs ys x o = ap (rest_of (Some x)) (map-append (keyed_as h) xs (x ∷ ys)) ∙ rest_at (with_keys h xs) (with_keys h ys) (keyed_as h x) (other xs ys x o)
 
@@ -155,7 +155,7 @@ module _ (h : List Op) where
     front_head xs [] o = ap (with_keys h) (append-nil xs)
     front_head xs (y ∷ ys) o = front_ids xs ys y o
 
-    -- what stands behind the last of a front
+    -- what stands after the last of a front
     pub rest_end : (xs ys : List Identifier) → IsOrderedBy R (xs ++ ys) → rest_of (last_before xs) (with_keys h (xs ++ ys)) ≡ with_keys h ys
     rest_end xs ys o =
         elim (cases_origin (last_before xs)) [

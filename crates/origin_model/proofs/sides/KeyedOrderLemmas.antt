@@ -15,12 +15,12 @@ use Rattle.fugue_ids.proofs.IdentifierLemmas.{contains-below, index_of-here, ind
 use Rattle.origin_model.specs.declared.operations.node.Node.{Node}
 use Rattle.origin_model.specs.declared.sides.Slot.{Slot}
 use Rattle.origin_model.specs.declared.sides.Slot.TheVariants.{LeftOf, RightOf}
-use Rattle.origin_model.specs.edits.Landing.{StandsBehind, following, first_after}
+use Rattle.origin_model.specs.edits.Landing.{StandsAfter, following, first_after}
 use Rattle.origin_model.specs.sides.KeyLaws.{HoldsSlot, StandsAt}
 use Rattle.origin_model.specs.sides.KeyedGap.{before_all, child_key, gap_between, gap_by_keys, gap_index, part_from, part_to, siblings, slot_key, slot_part}
 use Rattle.origin_model.specs.sides.Keys.{search_key_of, with_keys, keyed_as, keyed_order, new_key, new_keyed}
 use Rattle.origin_model.specs.sides.Node.{AreNodes, as_op, as_ops, has_node, has_origin, node_order}
-use Rattle.origin_model.specs.sides.Slot.{IsBeside, IsPlace, at_gap, goes_before, inserted_before, inserted_behind, slot_by}
+use Rattle.origin_model.specs.sides.Slot.{IsBeside, IsPlace, at_gap, goes_before, inserted_before, inserted_after, slot_by}
 use Rattle.origin_model.proofs.edits.LandsBehindLemmas.{lands_behind_origin}
 use Rattle.origin_model.proofs.edits.SplitLemmas.{end_none, end_split}
 use Rattle.origin_model.proofs.order.{order-has, order-member, order-some, order_total}
@@ -94,19 +94,19 @@ insert_before x y (e ∷ es) m =
           ∙ sym (ap (λ i. insert (e ∷ es) i x) (index_of-there e es y (λ d. n (sym d))))
     ]
 
--- and what goes in behind it one further
-insert_behind : (x y : Identifier) (xs : List Identifier) → Contains xs y → inserted_behind y x xs ≡ insert xs (suc (index_of xs y)) x
+-- and what goes in after it one further
+insert_behind : (x y : Identifier) (xs : List Identifier) → Contains xs y → inserted_after y x xs ≡ insert xs (suc (index_of xs y)) x
 insert_behind x y [] m = absurd (contains_none y m)
 insert_behind x y (e ∷ es) m =
     elim (cases_id e y) [
-      | inl d ↦ ap (λ b. if b then e ∷ x ∷ es else e ∷ inserted_behind y x es) (eq-id_eq e y d) ∙ sym (ap (λ i. insert (e ∷ es) (suc i) x) (index_of-here e es y (sym d)))
+      | inl d ↦ ap (λ b. if b then e ∷ x ∷ es else e ∷ inserted_after y x es) (eq-id_eq e y d) ∙ sym (ap (λ i. insert (e ∷ es) (suc i) x) (index_of-here e es y (sym d)))
       | inr n ↦
-          ap (λ b. if b then e ∷ x ∷ es else e ∷ inserted_behind y x es) (ne-id_eq e y n)
+          ap (λ b. if b then e ∷ x ∷ es else e ∷ inserted_after y x es) (ne-id_eq e y n)
           ∙ ap (λ t. e ∷ t) (insert_behind x y es (elim (contains_cases e es y m) [ inl d ↦ absurd (n d) | inr j ↦ j ]))
           ∙ sym (ap (λ i. insert (e ∷ es) (suc i) x) (index_of-there e es y (λ d. n (sym d))))
     ]
 
--- what goes into a gap goes in behind as many as stand before the gap
+-- what goes into a gap goes in after as many as stand before the gap
 pub gap_at : (gap : Gap) (x : Identifier) (xs : List Identifier) → IsBeside gap xs → at_gap gap x xs ≡ insert xs (gap_index gap xs) x
 gap_at Alone x xs b = refl
 gap_at (Before y) x xs b = insert_before x y xs b
@@ -137,7 +137,7 @@ module _ (n : Node) (ns : List Node) (a : AreNodes (n ∷ ns)) where
   w : Lawful (as_op n ∷ h)
   w = nodes-lawful (n ∷ ns) a
 
-  -- its place is one behind as many as stand before it
+  -- its place is one after as many as stand before it
   abbrev count : ℕ
   count = count_by (λ e. before_in (node_order ns) (as_op n ∷ h) e n.id) (node_order ns)
 
@@ -213,7 +213,7 @@ module _ (n : Node) (ns : List Node) (a : AreNodes (n ∷ ns)) where
         × HoldsOrigin (low_ids (child_key s (slot_key h s)) (rest_of (part_from (keyed_order ns) s (slot_key h s)) (keyed_order ns))) (part_to (keyed_order ns) s (slot_key h s))
     part_bounds = (part.1.from, part.1.to)
 
-  -- what follows an origin is the first behind it
+  -- what follows an origin is the first after it
   follows : (xs : List Identifier) (o : Option Identifier) → first_id (rest_of o (with_keys h xs)) ≡ following xs o
   follows [] None = refl
   follows (e ∷ es) None = refl
@@ -224,13 +224,13 @@ module _ (n : Node) (ns : List Node) (a : AreNodes (n ∷ ns)) where
         | false ↦ follows es (Some l)
       ]
 
-  -- one more behind a member that stands in the list once
-  behind_once : (l x : Identifier) (front back : List Identifier) → AllPairs (λ x y. x ≢ y) (front ++ l ∷ back) → inserted_behind l x (front ++ l ∷ back) ≡ front ++ l ∷ x ∷ back
-  behind_once l x [] back d = ap (λ b. if b then l ∷ x ∷ back else l ∷ inserted_behind l x back) (eq-id_eq l l refl)
-  behind_once l x (e ∷ front) back d =
+  -- one more after a member that stands in the list once
+  after_once : (l x : Identifier) (front back : List Identifier) → AllPairs (λ x y. x ≢ y) (front ++ l ∷ back) → inserted_after l x (front ++ l ∷ back) ≡ front ++ l ∷ x ∷ back
+  after_once l x [] back d = ap (λ b. if b then l ∷ x ∷ back else l ∷ inserted_after l x back) (eq-id_eq l l refl)
+  after_once l x (e ∷ front) back d =
       let n : e ≢ l = All-contains (λ y. e ≢ y) (front ++ l ∷ back) l (all_pairs_head (λ x y. x ≢ y) e (front ++ l ∷ back) d) (contains_middle front l back) in
-      ap (λ b. if b then e ∷ x ∷ front ++ l ∷ back else e ∷ inserted_behind l x (front ++ l ∷ back)) (ne-id_eq e l n)
-      ∙ ap (λ t. e ∷ t) (behind_once l x front back (all_pairs_tail (λ x y. x ≢ y) e (front ++ l ∷ back) d))
+      ap (λ b. if b then e ∷ x ∷ front ++ l ∷ back else e ∷ inserted_after l x (front ++ l ∷ back)) (ne-id_eq e l n)
+      ∙ ap (λ t. e ∷ t) (after_once l x front back (all_pairs_tail (λ x y. x ≢ y) e (front ++ l ∷ back) d))
 
   -- before all
   head_place : (x : Identifier) (xs longer : List Identifier) → longer ≡ x ∷ xs → IsPlace (before_all (first_after xs)) x xs longer
@@ -241,13 +241,13 @@ module _ (n : Node) (ns : List Node) (a : AreNodes (n ∷ ns)) where
     alone = ((λ d. cc), (λ d. cc));
   }
 
-  -- behind a member
-  behind_place : (x l : Identifier) (front back xs longer : List Identifier) → AllPairs (λ x y. x ≢ y) xs → xs ≡ front ++ l ∷ back → longer ≡ front ++ l ∷ x ∷ back
+  -- after a member
+  after_place : (x l : Identifier) (front back xs longer : List Identifier) → AllPairs (λ x y. x ≢ y) xs → xs ≡ front ++ l ∷ back → longer ≡ front ++ l ∷ x ∷ back
       → IsPlace (After l) x xs longer
-  behind_place x l front back xs longer d e f =
+  after_place x l front back xs longer d e f =
       let m : Contains xs l = subst (λ t. Contains t l) (sym e) (contains_middle front l back) in
       record {
-        place = f ∙ sym (behind_once l x front back (subst (AllPairs (λ x y. x ≢ y)) e d)) ∙ ap (inserted_behind l x) (sym e);
+        place = f ∙ sym (after_once l x front back (subst (AllPairs (λ x y. x ≢ y)) e d)) ∙ ap (inserted_after l x) (sym e);
         beside = m;
         alone = ((λ g. cc), (λ g. absurd (contains_none l (subst (λ t. Contains t l) g m))));
       }
@@ -265,7 +265,7 @@ module _ (n : Node) (ns : List Node) (a : AreNodes (n ∷ ns)) where
       let r = lands_behind_origin catalogue (as_op n) h n.id w refl (origin_member n.left a.0.left) right in
       by r (cases_origin n.left) right
     where
-      by : (r : StandsBehind n.left (n.id ∷ []) (node_order ns) (node_order (n ∷ ns))) → (n.left ≡ None) ⊎ ((l : Identifier) × (n.left ≡ Some l))
+      by : (r : StandsAfter n.left (n.id ∷ []) (node_order ns) (node_order (n ∷ ns))) → (n.left ≡ None) ⊎ ((l : Identifier) × (n.left ≡ Some l))
           → n.right ≡ following (node_order ns) n.left
           → IsPlace (gap_between n.left n.right) n.id (node_order ns) (node_order (n ∷ ns))
       by r (inl d) right =
@@ -281,4 +281,4 @@ module _ (n : Node) (ns : List Node) (a : AreNodes (n ∷ ns)) where
           let is : node_order (n ∷ ns) ≡ s.0 ++ d.0 ∷ n.id ∷ r.back =
           r.is ∙ append_assoc r.front (n.id ∷ []) r.back ∙ ap (λ t. t ++ n.id ∷ r.back) s.1 ∙ append_assoc s.0 (d.0 ∷ []) (n.id ∷ r.back) in
           subst (λ l. IsPlace (gap_between l n.right) n.id (node_order ns) (node_order (n ∷ ns))) (sym d.1)
-          (behind_place n.id d.0 s.0 r.back (node_order ns) (node_order (n ∷ ns)) (order_once ns a.1) was is)
+          (after_place n.id d.0 s.0 r.back (node_order ns) (node_order (n ∷ ns)) (order_once ns a.1) was is)

@@ -1,6 +1,6 @@
 -- The part of the list in which the children of a slot stand: they are its elements with the least key.
 use Rattle.origin_model.proofs.Words.{Contains, Contains-append_cases, Contains-append_left, Contains-append_right, Identifier, IsIn, IsOrderedBy, Lawful, List, None, Op, Passes}
-use Rattle.origin_model.proofs.Words.{Place, Some, [], all_pairs_before, all_pairs_behind, ap, append-nil, append_assoc, arith, chain_before, contains_cases, contains_filter_from}
+use Rattle.origin_model.proofs.Words.{Place, Some, [], all_pairs_before, all_pairs_after, ap, append-nil, append_assoc, arith, chain_before, contains_cases, contains_filter_from}
 use Rattle.origin_model.proofs.Words.{contains_here, contains_middle, contains_there, false, filter, fork_before, inl, inr, left_at, lefts, next_left, next_right, older_of, order}
 use Rattle.origin_model.proofs.Words.{refl, rights, sibling, subst, suc, sym, true, true≢false, Bool, ℕ, ◌++◌, ◌∙◌, ◌∷◌, ◌≡◌, ◌≢◌}
 use Rattle.std.proofs.lemmas.Bool.Decides.{nat_tests}
@@ -175,7 +175,7 @@ module _ (p : Place) (h : List Op) (w : Lawful h) (fit : AllFit p h) where
     to = tt;
   }
 
-  -- behind l: its block
+  -- after l: its block
   right_part : (l : Identifier) → IsIn p h l → (part : List Identifier) × IsPart (RightOf (Some l)) part
   right_part l m =
       let b = last_of_block l m in
@@ -184,8 +184,8 @@ module _ (p : Place) (h : List Op) (w : Lawful h) (fit : AllFit p h) where
       let s : Slot = RightOf (Some l) in
       let whole : o ≡ front ++ (l ∷ (r.back ++ r.after)) = r.whole ∙ append_assoc front (l ∷ r.back) r.after in
       let so : IsOrderedBy (before_at p h) (front ++ (l ∷ (r.back ++ r.after))) = subst (IsOrderedBy (before_at p h)) whole (sorted p h w) in
-      let lo : IsOrderedBy (before_at p h) (l ∷ (r.back ++ r.after)) = all_pairs_behind T front (l ∷ (r.back ++ r.after)) so in
-      let bo : IsOrderedBy (before_at p h) (r.back ++ r.after) = all_pairs_behind T (l ∷ []) (r.back ++ r.after) lo in
+      let lo : IsOrderedBy (before_at p h) (l ∷ (r.back ++ r.after)) = all_pairs_after T front (l ∷ (r.back ++ r.after)) so in
+      let bo : IsOrderedBy (before_at p h) (r.back ++ r.after) = all_pairs_after T (l ∷ []) (r.back ++ r.after) lo in
       let rest : rest_of (Some l) (with_keys h o) ≡ with_keys h (r.back ++ r.after) =
       ap (λ t. rest_of (Some l) (with_keys h t)) whole ∙ rest_ids h (before_at p h) (irrefl p h w) front (r.back ++ r.after) l so in
       let to : part_to (with_keys h o) s (slot_key h s) ≡ first_after r.after = end_low p h w fit l b.0 m b.1 r in
@@ -234,7 +234,7 @@ module _ (p : Place) (h : List Op) (w : Lawful h) (fit : AllFit p h) where
       head_low xs [] f = tt
       head_low xs (c ∷ cs) f = low_in (ck (RightOf (Some l))) (xs ++ c ∷ cs) c (contains_middle xs c cs) (f c cs refl)
 
-  -- before q: behind the last whose key is no greater
+  -- before q: after the last whose key is no greater
   left_part : (q : Identifier) → IsIn p h q → (part : List Identifier) × IsPart (LeftOf q) part
   left_part q m =
       let b = first_of_block q m in
@@ -244,7 +244,7 @@ module _ (p : Place) (h : List Op) (w : Lawful h) (fit : AllFit p h) where
       let part : List Identifier = z.back ++ r.inner in
       let whole : o ≡ z.front ++ (part ++ q ∷ r.back) = start_whole p h w fit q b.0 m b.1 r z in
       let so : IsOrderedBy (before_at p h) (z.front ++ (part ++ q ∷ r.back)) = subst (IsOrderedBy (before_at p h)) whole (sorted p h w) in
-      let po : IsOrderedBy (before_at p h) (part ++ q ∷ r.back) = all_pairs_behind T z.front (part ++ q ∷ r.back) so in
+      let po : IsOrderedBy (before_at p h) (part ++ q ∷ r.back) = all_pairs_after T z.front (part ++ q ∷ r.back) so in
       let rest : rest_of (part_from (with_keys h o) s (slot_key h s)) (with_keys h o) ≡ with_keys h (part ++ q ∷ r.back) = start_rest p h w fit q b.0 m b.1 r z in
       let in_part : (v : Identifier) → Contains part v → Contains o v = λ v n.
       subst (λ t. Contains t v) (sym whole) (Contains-append_right z.front (part ++ q ∷ r.back) v (Contains-append_left part (q ∷ r.back) v n)) in
@@ -289,7 +289,7 @@ module _ (p : Place) (h : List Op) (w : Lawful h) (fit : AllFit p h) where
               elim (Contains-append_cases (r.front ++ r.inner) (q ∷ r.back) v (subst (λ t. Contains t v) r.whole (order-has p h v mv))) [
                 | inr i ↦ absurd (elim (contains_cases q r.back v i) [
                   | inl d ↦ true≢false (sym vq ∙ ap (λ x. before_at p h x q) (sym d) ∙ irrefl p h w q)
-                  | inr j ↦ loop p h w v q vq (first_before (before_at p h) q v r.back (all_pairs_behind T (r.front ++ r.inner) (q ∷ r.back) ro) j)
+                  | inr j ↦ loop p h w v q vq (first_before (before_at p h) q v r.back (all_pairs_after T (r.front ++ r.inner) (q ∷ r.back) ro) j)
                 ])
                 | inl i ↦ elim (Contains-append_cases r.front r.inner v i) [
                   | inr j ↦ Contains-append_right z.back r.inner v j

@@ -90,7 +90,7 @@ never_both (op ∷ older) x r a b w e f i j =
           rest (right_origin_held older x a r w.1 k i) o
     ]
 
--- an element behind its left origin, with the same right origin
+-- an element after its left origin, with the same right origin
 pub run_key : RunKey
 run_key h x y a b w e f i j =
     let ly : lefts h y ≡ lefts h x ++ y ∷ [] = lefts-at h y b w f ∙ ap (λ o. chain_above next_left h o ++ y ∷ []) i in

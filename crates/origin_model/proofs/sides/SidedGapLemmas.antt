@@ -1,5 +1,5 @@
 -- The gap that the sided tree gives is the place of the new element: what stands before it there stands before it by
--- the chains, and what stands behind it stands behind it.
+-- the chains, and what stands after it stands after it.
 use Rattle.origin_model.proofs.Words.{All-contains, Bool, Contains, Contains-append_cases, Contains-append_left, Identifier, IsIn, IsOrderedBy, Lawful, List, None, Op, Option}
 use Rattle.origin_model.proofs.Words.{Place, Some, [], all_pairs_before, ap, append-nil, append_assoc, append_cancel_left, before_in, cases_Bool, cases_id, chain_before}
 use Rattle.origin_model.proofs.Words.{contains_here, contains_middle, element_of, false, false≢true, fork_before, has_left, index_of_origin, inl, inr, is_own, left_at, left_of}
@@ -143,7 +143,7 @@ module _ (p : Place) (op : Op) (older : List Op) (x : Identifier) (w : Lawful (o
   child_rights : (v : Identifier) → IsChild p older slot v → rights h v ≡ O ++ v ∷ []
   child_rights v k = re v (child-in p older slot v k) ∙ child-rights p older slot v w.1 k
 
-  -- the first behind the left origin of x in a chain has that left origin too
+  -- the first after the left origin of x in a chain has that left origin too
   under_gap : (e u : Identifier) (more : List Identifier) → IsIn p older e → lefts h e ≡ A ++ u ∷ more → Under p older (left_of op) u
   under_gap e u more m q = under_left p older (left_of op) e u more w.1 left_there m (sym (le e m) ∙ q)
 
@@ -180,18 +180,18 @@ module _ (p : Place) (op : Op) (older : List Op) (x : Identifier) (w : Lawful (o
   not_under e m n = is_old x (All-contains (IsHeld older) (lefts older e) x (chain-held next_left older e) (subst (λ l. Contains l x) (le e m) n)) refl
 
   -- y is the last of the elements that stand before x
-  record IsBehind (y : Identifier) : Type 0 where
+  record IsAfter (y : Identifier) : Type 0 where
     pub member : IsIn p older y
     pub goes : B y x ≡ true
     pub last : (e : Identifier) → IsIn p older e → B e x ≡ true → (e ≡ y) ⊎ (B e y ≡ true)
 
-  -- y is the first of the elements that stand behind x
+  -- y is the first of the elements that stand after x
   record IsInFront (y : Identifier) : Type 0 where
     pub member : IsIn p older y
     pub goes : B x y ≡ true
     pub first : (e : Identifier) → IsIn p older e → B x e ≡ true → (e ≡ y) ⊎ (B y e ≡ true)
 
-  -- the last earlier sibling stands behind all siblings that go before x
+  -- the last earlier sibling stands after all siblings that go before x
   elders_last : (front : List Identifier) (s z : Identifier) → earlier ≡ front ++ s ∷ [] → IsChild p older slot s → IsChild p older slot z → F z x ≡ true → (z ≡ s) ⊎ (F z s ≡ true)
   elders_last front s z e ks kz k =
       elim (in_slot z kz) [
@@ -229,7 +229,7 @@ module _ (p : Place) (op : Op) (older : List Op) (x : Identifier) (w : Lawful (o
       ]
 
   -- with an earlier sibling: the last node below the last of them is the last before x
-  earlier_case : (y : Identifier) → AfterEarlierSibling children earlier y → IsBehind y
+  earlier_case : (y : Identifier) → AfterEarlierSibling children earlier y → IsAfter y
   earlier_case y b =
       let s : Identifier = b.earlier_sibling in
       let inel : Contains earlier s = subst (λ l. Contains l s) (sym b.is_last) (contains_middle b.front s []) in
@@ -259,7 +259,7 @@ module _ (p : Place) (op : Op) (older : List Op) (x : Identifier) (w : Lawful (o
         ];
       }
 
-  -- a left child without an earlier sibling: the first node below its parent is the first behind x
+  -- a left child without an earlier sibling: the first node below its parent is the first after x
   left_case : (q y : Identifier) → slot ≡ LeftOf q → earlier ≡ [] → BeforeBlock children q y → IsInFront y
   left_case q y es none b =
       let par = left_parent older (left_of op) (right_of op) q es in
@@ -322,7 +322,7 @@ module _ (p : Place) (op : Op) (older : List Op) (x : Identifier) (w : Lawful (o
   right_left : (l : Option Identifier) → slot ≡ RightOf l → left_of op ≡ l
   right_left l e = sym slot_left-is ∙ ap (slot_left older) e
 
-  -- the first right child of the start: the first node below its next sibling is the first behind x
+  -- the first right child of the start: the first node below its next sibling is the first after x
   first_case : (y : Identifier) → slot ≡ RightOf None → earlier ≡ [] → BeforeFirst children later y → IsInFront y
   first_case y es none b =
       let l0 : left_of op ≡ None = right_left None es in
@@ -370,7 +370,7 @@ module _ (p : Place) (op : Op) (older : List Op) (x : Identifier) (w : Lawful (o
       }
 
   -- a right child without an earlier sibling: its parent is the last before x
-  parent_case : (l : Identifier) → slot ≡ RightOf (Some l) → earlier ≡ [] → IsBehind l
+  parent_case : (l : Identifier) → slot ≡ RightOf (Some l) → earlier ≡ [] → IsAfter l
   parent_case l es none =
       let l0 : left_of op ≡ Some l = right_left (Some l) es in
       let a0 : A ≡ lefts older l = ap (chain_above next_left older) l0 in
@@ -427,9 +427,9 @@ module _ (p : Place) (op : Op) (older : List Op) (x : Identifier) (w : Lawful (o
     alone = ((λ d. absurd (n d)), (λ d. absurd (no_member (order p older) y d (order-has p older y m))));
   }
 
-  -- x stands directly behind y
-  place_behind : (y : Identifier) → IsBehind y → IsPlace (After y) x (order p older) (order p h)
-  place_behind y g = beside_element (After y) y (λ e. cc) g.member (order-has p older y g.member) (
+  -- x stands directly after y
+  place_after : (y : Identifier) → IsAfter y → IsPlace (After y) x (order p older) (order p h)
+  place_after y g = beside_element (After y) y (λ e. cc) g.member (order-has p older y g.member) (
       order-some p op older x at
       ∙ placed-after B (before_in-irrefl (order p older) h) (before_in-trans (order p older) h) x y (order p older) ordered (order-has p older y g.member) g.goes
       (λ e m k. g.last e (old_in e m) k))
@@ -456,13 +456,13 @@ module _ (p : Place) (op : Op) (older : List Op) (x : Identifier) (w : Lawful (o
   no_earlier_gap : (s : Slot) (g : Gap) → slot ≡ s → earlier ≡ [] → NoEarlierSibling children s later g → IsPlace g x (order p older) (order p h)
   no_earlier_gap (RightOf None) Alone e n k = place_alone (alone_case e n k)
   no_earlier_gap (RightOf None) (Before y) e n k = place_in_front y (first_case y e n k)
-  no_earlier_gap (RightOf (Some l)) (After y) e n k = subst (λ z. IsPlace (After z) x (order p older) (order p h)) k (place_behind l (parent_case l e n))
+  no_earlier_gap (RightOf (Some l)) (After y) e n k = subst (λ z. IsPlace (After z) x (order p older) (order p h)) k (place_after l (parent_case l e n))
   no_earlier_gap (LeftOf q) (Before y) e n k = place_in_front y (left_case q y e n k)
   no_earlier_gap _ _ e n k = absurd k
 
   -- the gap with an earlier sibling
   earlier_gap : (g : Gap) → HasEarlierSibling children earlier g → IsPlace g x (order p older) (order p h)
-  earlier_gap (After y) k = place_behind y (earlier_case y k)
+  earlier_gap (After y) k = place_after y (earlier_case y k)
   earlier_gap _ k = absurd k
 
   -- the gap, by whether there is an earlier sibling

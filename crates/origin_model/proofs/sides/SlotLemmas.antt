@@ -102,7 +102,7 @@ left_from h u l w k t e =
     ∙ same_above h (left_of o.0) l (λ r f. left_origin_held h u o.0 r w o.1 f) t
     (same_from_push (chain_above next_left h (left_of o.0)) (chain_above next_left h l) u u (sym (lefts-at h u o.0 w o.1) ∙ e)).0
 
--- the first behind a slot in a chain of right origins is a child of the slot
+-- the first after a slot in a chain of right origins is a child of the slot
 pub child_under : (p : Place) (h : List Op) (s : Slot) (u z : Identifier) (ws : List Identifier) → Lawful h → IsThere h s → IsIn p h u → left_at h u ≡ slot_left h s
     → rights h u ≡ over h s ++ z ∷ ws → IsChild p h s z
 child_under p h s u z ws w t m l q =
@@ -124,7 +124,7 @@ pub record Under (p : Place) (h : List Op) (l : Option Identifier) (u : Identifi
   pub lefts_u : lefts h u ≡ chain_above next_left h l ++ u ∷ []
   pub left_u : left_at h u ≡ l
 
--- the first behind l in a chain of left origins has the left origin l
+-- the first after l in a chain of left origins has the left origin l
 pub under_left : (p : Place) (h : List Op) (l : Option Identifier) (e u : Identifier) (more : List Identifier) → Lawful h → IsThere h (RightOf l) → IsIn p h e
     → lefts h e ≡ chain_above next_left h l ++ u ∷ more → Under p h l u
 under_left p h l e u more w t m q =

@@ -38,7 +38,7 @@ module _ (p : Place) (h : List Op) (w : Lawful h) (children : Slot → List Iden
   abbrev S : Identifier → Identifier → Bool
   S = sibling (order p (older_of h)) h
 
-  -- the last child stands behind all others
+  -- the last child stands after all others
   last_is : (s : Slot) (front : List Identifier) (v r : Identifier) → children s ≡ front ++ v ∷ [] → Contains (children s) r → (r ≡ v) ⊎ (F r v ≡ true)
   last_is s front v r e m =
       elim (last_of (fork_before (order p h) h) front v r (subst (IsOrderedBy (fork_before (order p h) h)) e (t.sorted s)) (subst (λ l. Contains l r) e m)) [

@@ -16,7 +16,7 @@ at replica counter = Some (id replica counter)
 abbrev node : Identifier → Option Identifier → Option Identifier → Op
 node x left right = Section x left right []
 
--- B at the end; A and D before B; X and Y behind A, X before B and Y before D
+-- B at the end; A and D before B; X and Y after A, X before B and Y before D
 abbrev concurrent : List Op
 concurrent =
     node (id 2 1) (at 1 1) (at 2 0) ∷ node (id 3 0) (at 1 1) (at 1 0) ∷ node (id 2 0) None (at 1 0) ∷ node
@@ -32,7 +32,7 @@ concurrent_children = (refl, refl)
 concurrent_walk : walk catalogue concurrent ≡ id 1 1 ∷ id 3 0 ∷ id 2 1 ∷ id 2 0 ∷ id 1 0 ∷ []
 concurrent_walk = refl
 
--- P; Q behind P; Z behind Q and before P, which stands before Q; V behind Q, before the end
+-- P; Q after P; Z after Q and before P, which stands before Q; V after Q, before the end
 abbrev backwards : List Op
 backwards = node (id 3 0) (at 1 1) None ∷ node (id 2 0) (at 1 1) (at 1 0) ∷ node (id 1 1) (at 1 0) None ∷ node
     (id 1 0) None None ∷ []

@@ -161,7 +161,7 @@ module _ (p : Place) (h : List Op) (w : Lawful h) (children : Slot → List Iden
       ∙ (λ i. chain_before false F (b.forest i) (sym (append-nil (rights h v)) i))
       ∙ common false F (rights h v) (z.0 ∷ b.behind) []
 
-  -- right children, and what is below them, stand behind it
+  -- right children, and what is below them, stand after it
   right_last : (v e : Identifier) → InSlot (RightOf (Some v)) e → R v e ≡ true
   right_last v e z =
       let b = z.2 in
@@ -200,12 +200,12 @@ module _ (p : Place) (h : List Op) (w : Lawful h) (children : Slot → List Iden
       let M : List Identifier = below n (RightOf (Some v)) in
       let before_v : (a : Identifier) → Contains L a
       → R a v ≡ true = λ a m. left_first v a k (walk_in n (LeftOf v) a m) in
-      let behind_v : (b : Identifier) → Contains M b
+      let after_v : (b : Identifier) → Contains M b
       → R v b ≡ true = λ b m. right_last v b (walk_in n (RightOf (Some v)) b m) in
       all_pairs_append T L (v ∷ M) (o (LeftOf v))
-      (AllPairs-cons T v M (all_from_contains (T v) M behind_v) (o (RightOf (Some v))))
+      (AllPairs-cons T v M (all_from_contains (T v) M after_v) (o (RightOf (Some v))))
       (all_from_contains (λ a. All (T a) (v ∷ M)) L (λ a m.
-      All-cons (T a) v M (before_v a m) (all_from_contains (T a) M (λ b j. trans a v b (before_v a m) (behind_v b j)))))
+      All-cons (T a) v M (before_v a m) (all_from_contains (T a) M (λ b j. trans a v b (before_v a m) (after_v b j)))))
 
   -- the walk is in order
   walk_ordered : (n : ℕ) (s : Slot) → IsOrderedBy R (below n s)

@@ -78,8 +78,8 @@ more_closed r ops k n =
     subst (λ (s : Held). IsClosed (mine ++ ops) s.history) (sym (held-append r.hold r.most nothing_held mine ops) ∙ after) (held_closed r.hold r.most (mine ++ ops) k both)
 
 -- a front of two lists, the second of which is part of another
-part_behind : (front a b : List Op) → IsPartOf a b → IsPartOf (front ++ a) (front ++ b)
-part_behind front a b f x m =
+part_after : (front a b : List Op) → IsPartOf a b → IsPartOf (front ++ a) (front ++ b)
+part_after front a b f x m =
     has-append front b x ∙ (elim (or_cases (has_op front x) (has_op a x) (sym (has-append front a x) ∙ m)) [
       | inl j ↦ or_left (has_op front x) (has_op b x) j
       | inr j ↦ or_right (has_op front x) (has_op b x) (f x j)
@@ -160,7 +160,7 @@ given_suffices : (front ops h : List Op) (replicas : List Taker) → IsPartOf (g
     → Consistent (front ++ kept_by_all replicas) → IsClosed (front ++ ops) h → IsClosed (front ++ kept_by_all replicas) h
 given_suffices front ops h replicas f g k d =
     let all : List Op = front ++ kept_by_all replicas in
-    let part : IsPartOf (front ++ ops) all = part_behind front ops (kept_by_all replicas) g in
+    let part : IsPartOf (front ++ ops) all = part_after front ops (kept_by_all replicas) g in
     record {
       lawful = d.lawful;
       part = λ x m. part x (d.part x m);
@@ -187,7 +187,7 @@ pub closure_of_union : ClosureOfUnion
 closure_of_union r others ops f g k n =
     let all : List Op = kept_by r ++ kept_by_all others in
     let end : List Op = (held_from r.hold r.most (taker_state r) ops).history in
-    let part : IsPartOf (kept_by r ++ ops) all = part_behind (kept_by r) ops (kept_by_all others) g in
+    let part : IsPartOf (kept_by r ++ ops) all = part_after (kept_by r) ops (kept_by_all others) g in
     let c : IsClosed (kept_by r ++ ops) end = more_closed r ops (consistent_part (kept_by r ++ ops) all part k) n in
     same_closed all end (closure all) k (given_suffices (kept_by r) ops end others f g k c) (closure_is all)
 

@@ -53,11 +53,11 @@ ready-is : (v : Verdict) → is_ready v ≡ true → v ≡ Ready
 ready-is Ready h = refl
 ready-is _ h = absurd (false≢true h)
 
--- the first Ready operation, by the verdict on the first of a list and what is found behind it
+-- the first Ready operation, by the verdict on the first of a list and what is found after it
 abbrev ready_or : Verdict → Op → Option Op → Option Op
 ready_or v o rest = elim v [ Ready ↦ Some o | _ ↦ rest ]
 
--- any verdict but Ready leaves what is found behind
+-- any verdict but Ready leaves what is found after
 ready_or-no : (v : Verdict) (o : Op) (rest : Option Op) → is_ready v ≡ false → ready_or v o rest ≡ rest
 ready_or-no Ready o rest e = absurd (true≢false e)
 ready_or-no _ o rest e = refl

@@ -23,18 +23,18 @@ stays_settled hold most s [] z = z
 stays_settled hold most s (op ∷ ops) z =
     stays_settled hold most (intake hold most s op) ops (settles (held_after (answer hold most s op) s op))
 
--- one behind the other, or as one list
+-- one after the other, or as one list
 pub held-append : (hold most : ℕ) (s : Held) (a b : List Op) → held_from hold most (held_from hold most s a) b ≡ held_from hold most s (a ++ b)
 held-append hold most s [] b = refl
 held-append hold most s (op ∷ a) b = held-append hold most (intake hold most s op) a b
 
--- the answers to two lists, one behind the other
+-- the answers to two lists, one after the other
 pub answers-append : (hold most : ℕ) (s : Held) (a b : List Op)
     → answers_from hold most s (a ++ b) ≡ answers_from hold most s a ++ answers_from hold most (held_from hold most s a) b
 answers-append hold most s [] b = refl
 answers-append hold most s (op ∷ a) b = ap (λ t. answer hold most s op ∷ t) (answers-append hold most (intake hold most s op) a b)
 
--- how two lists, one behind the other, are counted
+-- how two lists, one after the other, are counted
 pub tally-append : (hold most : ℕ) (s : Held) (a b : List Op) (t : Tally)
     → tally_from hold most (held_from hold most s a) b (tally_from hold most s a t) ≡ tally_from hold most s (a ++ b) t
 tally-append hold most s [] b t = refl
@@ -50,7 +50,7 @@ pub kept-no : (hold most : ℕ) (s : Held) (op : Op) (ops : List Op) → is_kept
     → kept_from hold most s (op ∷ ops) ≡ kept_from hold most (intake hold most s op) ops
 kept-no hold most s op ops e = rw (e, kept_from)
 
--- what is kept of two lists, one behind the other
+-- what is kept of two lists, one after the other
 pub kept-append : (hold most : ℕ) (s : Held) (a b : List Op) → kept_from hold most s a ++ kept_from hold most (held_from hold most s a) b ≡ kept_from hold most s (a ++ b)
 kept-append hold most s [] b = refl
 kept-append hold most s (op ∷ a) b =

@@ -1,6 +1,6 @@
 -- What a replica holds, taken in again: by itself it changes nothing, and from nothing it leads to the same.
 use Rattle.origin_model.proofs.Words.{All, All-head, All-nil, All-tail, All-weaker, AllPairs, Identifier, Lawful, List, None, Op, Option, Ready, Some, Verdict, [], accepted}
-use Rattle.origin_model.proofs.Words.{all_before, all_behind, ap, append-nil, append_assoc, arith, false, false_from_ne_true, has_op, holds, id_held, id_of, if◌then◌else◌, is_own}
+use Rattle.origin_model.proofs.Words.{all_before, all_after, ap, append-nil, append_assoc, arith, false, false_from_ne_true, has_op, holds, id_held, id_of, if◌then◌else◌, is_own}
 use Rattle.origin_model.proofs.Words.{length, length-append, nat_eq, ne_eqb, op_eq, op_eq-true, refl, reverse-append, subst, sym, true, true≢false, verdict, ℕ, ◌++◌, ◌+◌, ◌∙◌, ◌∷◌}
 use Rattle.origin_model.proofs.Words.{◌≡◌, ◌≢◌, ◌≤◌}
 use Rattle.std.proofs.lemmas.Bool.{or_from}
@@ -92,11 +92,11 @@ waiting_again hold most h front (op ∷ ops) z apart few_wait few =
     let all : h ++ (front ++ op ∷ ops) ≡ (h ++ front) ++ op ∷ ops = sym (append_assoc h front (op ∷ ops)) in
     let others : All (λ o. o ≢ op) (h ++ front) = apart_from (λ a b. a ≢ b) (h ++ front) op ops (subst (AllPairs (λ a b. a ≢ b)) all apart.once) in
     let ids : All (λ o. HaveOtherIds o op) (h ++ front) = apart_from HaveOtherIds (h ++ front) op ops (subst (AllPairs HaveOtherIds) all apart.own_ids) in
-    let undecided : decided_on h op ≡ false = All-head (λ o. decided_on h o ≡ false) op ops (all_behind (λ o. decided_on h o ≡ false) front (op ∷ ops) z) in
+    let undecided : decided_on h op ≡ false = All-head (λ o. decided_on h o ≡ false) op ops (all_after (λ o. decided_on h o ≡ false) front (op ∷ ops) z) in
     let again : is_again s op ≡ false = or_from (has_op h op) (has_op front op)
-    (absent h op (all_before (λ o. o ≢ op) h front others)) (absent front op (all_behind (λ o. o ≢ op) h front others)) in
+    (absent h op (all_before (λ o. o ≢ op) h front others)) (absent front op (all_after (λ o. o ≢ op) h front others)) in
     let free : is_taken s op ≡ false = or_from (id_held h (id_of op)) (id_held front (id_of op))
-    (free_id h op (all_before (λ o. HaveOtherIds o op) h front ids)) (free_id front op (all_behind (λ o. HaveOtherIds o op) h front ids)) in
+    (free_id h op (all_before (λ o. HaveOtherIds o op) h front ids)) (free_id front op (all_after (λ o. HaveOtherIds o op) h front ids)) in
     let room : nat_eq (length h + length front) most ≡ false = ne_eqb (length h + length front) most (λ e. omega (arith, few, long, e)) in
     let space : nat_eq (length front) hold ≡ false = ne_eqb (length front) hold (λ e. omega (arith, few_wait, long, e)) in
     let is : answer hold most s op ≡ Waits =

@@ -22,14 +22,14 @@ module _ (hold most : ℕ) where
   pub places-one : (start : Held) (op : Op) → answer hold most start op ≢ TooMany → MeetsNoLimit hold most start (op ∷ [])
   places-one start op other = All-cons (λ (x : Answer). x ≢ TooMany) (answer hold most start op) [] other (places-none start)
 
-  -- all find their place, one list behind the other
+  -- all find their place, one list after the other
   pub places-append : (start : Held) (a b : List Op) → MeetsNoLimit hold most start a → MeetsNoLimit hold most (held_from hold most start a) b
       → MeetsNoLimit hold most start (a ++ b)
   places-append start a b p q =
       All-same (λ (x : Answer). x ≢ TooMany) _ _ (answers-append hold most start a b)
       (All-append (λ (x : Answer). x ≢ TooMany) (answers_from hold most start a) (answers_from hold most (held_from hold most start a) b) p q)
 
-  -- the first of them, and the others behind it
+  -- the first of them, and the others after it
   places-head : (start : Held) (op : Op) (ops : List Op) → MeetsNoLimit hold most start (op ∷ ops) → answer hold most start op ≢ TooMany
   places-head start op ops places = All-head (λ (x : Answer). x ≢ TooMany) (answer hold most start op) (answers_from hold most (intake hold most start op) ops) places
 

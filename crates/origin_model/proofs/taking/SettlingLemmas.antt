@@ -17,7 +17,7 @@ pub record IsEarliest (h w : List Op) (r : Op × List Op) : Type 0 where
 abbrev pub without : Held → Op × List Op → Held
 without s r = record { history = joined (verdict s.history r.0) r.0 s.history; waiting = r.1 }
 
--- what was found behind an operation that is not decided, which stays with the others
+-- what was found after an operation that is not decided, which stays with the others
 abbrev pub passed_over : Op → Option (Op × List Op) → Option (Op × List Op)
 passed_over o q = elim q [ None ↦ None | Some r ↦ Some (r.0, o ∷ r.1) ]
 

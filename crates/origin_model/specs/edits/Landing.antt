@@ -19,15 +19,15 @@ following es None = first_after es
 following [] (Some l) = None
 following (e ∷ es) (Some l) = if id_eq e l then first_after es else following es (Some l)
 
--- an element whose right origin stands directly behind its left origin lands between them
+-- an element whose right origin stands directly after its left origin lands between them
 abbrev pub LandsBehind : Type 0
 LandsBehind =
     (p : Place) (op : Op) (older : List Op) (x : Identifier) (front back : List Identifier) → Lawful (op ∷ older) → element_of p op ≡ Some x
     → order p older ≡ front ++ back → left_of op ≡ last_before front → right_of op ≡ first_after back
     → order p (op ∷ older) ≡ front ++ x ∷ back
 
--- new elements stand directly behind a left origin, in their order, and the others as before
-pub record StandsBehind (left : Option Identifier) (new before after : List Identifier) : Type 0 where
+-- new elements stand directly after a left origin, in their order, and the others as before
+pub record StandsAfter (left : Option Identifier) (new before after : List Identifier) : Type 0 where
   pub front : List Identifier
   pub back : List Identifier
   pub was : before ≡ front ++ back
@@ -39,13 +39,13 @@ abbrev pub LandsBehindOrigin : Type 0
 LandsBehindOrigin =
     (p : Place) (op : Op) (older : List Op) (x : Identifier) → Lawful (op ∷ older) → element_of p op ≡ Some x
     → IfSome (left_of op) (λ l. Contains (order p older) l) → right_of op ≡ following (order p older) (left_of op)
-    → StandsBehind (left_of op) (x ∷ []) (order p older) (order p (op ∷ older))
+    → StandsAfter (left_of op) (x ∷ []) (order p older) (order p (op ∷ older))
 
 -- no element has it as its left origin
 abbrev pub IsLeaf : List Op → Identifier → Type 0
 IsLeaf h l = (u : Identifier) → left_at h u ≡ Some l → ⊥
 
--- an element whose left origin is no other element's lands directly behind that, wherever its right origin stands
+-- an element whose left origin is no other element's lands directly after that, wherever its right origin stands
 abbrev pub LandsBehindLeaf : Type 0
 LandsBehindLeaf =
     (p : Place) (op : Op) (older : List Op) (x l : Identifier) (front back : List Identifier) → Lawful (op ∷ older)
@@ -53,7 +53,7 @@ LandsBehindLeaf =
     → left_of op ≡ Some l → IsLeaf older l → order p older ≡ front ++ l ∷ back
     → order p (op ∷ older) ≡ front ++ l ∷ x ∷ back
 
--- an element that was accepted directly after its left origin lands directly behind it
+-- an element that was accepted directly after its left origin lands directly after it
 abbrev pub LandsBehindNewest : Type 0
 LandsBehindNewest =
     (p : Place) (next op : Op) (older : List Op) (x l : Identifier) (front back : List Identifier) → Lawful (next ∷ op ∷ older)

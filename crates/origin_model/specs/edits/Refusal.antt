@@ -11,7 +11,7 @@ use Rattle.origin_model.specs.declared.edit_fault.EditFault.TheVariants.{NoSecti
 use Rattle.origin_model.specs.declared.operations.Place.{Place}
 use Rattle.origin_model.specs.declared.operations.Place.TheVariants.{Catalogue as catalogue, Section as within}
 
--- the section behind k others among those that are shown
+-- the section after k others among those that are shown
 abbrev pub section_shown : State → ℕ → Option Identifier
 section_shown s k = slice_get (shown catalogue s.held.history) k
 

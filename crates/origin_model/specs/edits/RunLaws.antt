@@ -2,7 +2,7 @@
 use Rattle.std.specs.Prelude.{◌≡◌, ◌≢◌, ℕ, Option, suc, ◌+◌, ◌<◌, ◌≤◌, false, List, ◌∷◌, ◌++◌, length, flat_map}
 use Rattle.std.specs.List.{All, Contains}
 use Rattle.fugue_ids.specs.Identifiers.{Identifier}
-use Rattle.fugue_ids.specs.Runs.{id_behind, ids_in_a_row, in_a_row, run_from, text_by}
+use Rattle.fugue_ids.specs.Runs.{id_after, ids_in_a_row, in_a_row, run_from, text_by}
 use Rattle.fugue_ids.specs.declared.op.Op.{Op}
 use Rattle.fugue_ids.specs.declared.run.RunStart.{RunStart}
 use Rattle.origin_model.specs.declared.operations.Place.{Place}
@@ -53,7 +53,7 @@ pub record GoesIn (hold most : ℕ) (s : Held) (start : RunStart) (ch : ℕ) (te
   -- the first has the key of its origins; each other one is deeper by one than the one before it, and its forest is 0
   pub first_key : search_key_of (history_with s.history (run_from start (ch ∷ text))) start.id ≡ new_key s.history start.left start.right
   pub later_keys : (k : ℕ) → k < length text
-      → search_key_of (history_with s.history (run_from start (ch ∷ text))) (id_behind start.id (suc k))
+      → search_key_of (history_with s.history (run_from start (ch ∷ text))) (id_after start.id (suc k))
       ≡ record { depth = suc (depth_above s.history start.left) + suc k; forest = 0 }
 
 -- where it can, it does

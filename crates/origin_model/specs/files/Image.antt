@@ -56,11 +56,11 @@ is_header bytes =
 abbrev pub header_of : List ℕ → List ℕ
 header_of bytes = take 13 bytes
 
--- the bytes of a file behind its header
+-- the bytes of a file after its header
 abbrev pub slots_of : List ℕ → List ℕ
 slots_of bytes = drop 13 bytes
 
--- the bytes begin with a header, and a byte stands behind it
+-- the bytes begin with a header, and a byte stands after it
 abbrev pub has_header : List ℕ → Bool
 has_header bytes = nat_le 14 (length bytes) && is_header (header_of bytes)
 
@@ -95,14 +95,14 @@ batch_ops batches = flat_map (λ batch. batch.ops) batches
 abbrev pub last_slot : ℕ
 last_slot = 4294967295
 
--- open slots, each with a byte behind it, and the bytes from the gate on that follows them
+-- open slots, each with a byte after it, and the bytes from the gate on that follows them
 pub record OpenSlots (slots : List ℕ) (batches : List Batch) (rest : List ℕ) : Type 0 where
   pub batches_are : All IsBatch batches
   pub few : length batches ≤ last_slot
   pub split : slots ≡ open_slots batches ++ rest
   pub gate : rest ≢ []
 
--- why the bytes behind the gate of an open slot are no batch with a byte behind it
+-- why the bytes after the gate of an open slot are no batch with a byte after it
 pub data IsNoBatch (slot : ℕ) (bytes : List ℕ) : Type 0 where
   -- the four bytes of the word are not all there
   NoWord : length bytes < 4 → IsNoBatch slot bytes
@@ -114,7 +114,7 @@ pub data IsNoBatch (slot : ℕ) (bytes : List ℕ) : Type 0 where
   -- the bytes are not whole frames of the tag's grammar
   NoFrames : (grammar : Grammar) → word_tag (number_at 0 bytes) ≡ tag_of grammar
       → ((ops : List Op) → Reads grammar (take (length_at 0 bytes) (drop 4 bytes)) ops Whole → ⊥) → IsNoBatch slot bytes
-  -- no byte stands behind the bytes of the slot
+  -- no byte stands after the bytes of the slot
   NoGate : length (drop 4 bytes) ≡ length_at 0 bytes → IsNoBatch slot bytes
   -- the slot has the last number
   LastSlot : slot ≡ last_slot → IsNoBatch slot bytes

@@ -46,7 +46,7 @@ frame (Text id section left right ch) =
 frame (Delete target) = 3 ∷ [] ++ id_bytes target
 frame (Note id named code body) = 5 ∷ [] ++ id_bytes id ++ names_bytes named ++ code ∷ [] ++ body_bytes body
 
--- the operations' own frames, one behind the other
+-- the operations' own frames, one after the other
 abbrev pub single_frames : List Op → List ℕ
 single_frames ops = flat_map frame ops
 
@@ -190,7 +190,7 @@ pub data End : Type 0 where
   CutShort : ℕ → End
   BadFrame : ℕ → End
 
--- how the rest behind the frames ends the stream
+-- how the rest after the frames ends the stream
 abbrev pub EndsSo : Grammar → List ℕ → ℕ → End → Type 0
 EndsSo grammar rest offset Whole = rest ≡ []
 EndsSo grammar rest offset (CutShort k) = (k ≡ offset) × (rest ≢ []) × IsPartial grammar rest

@@ -1,7 +1,7 @@
 -- How a list of operations is cut into frames: from the front, each frame stands for as many operations as one can.
 use Rattle.std.specs.Prelude.{◌≡◌, ℕ, ◌≤◌, Option, Some, None, All, List, [], ◌∷◌, ◌++◌, length, flat_map}
 use Rattle.std.specs.Prelude.{◌&&◌, nat_lt, if◌then◌else◌}
-use Rattle.fugue_ids.specs.Runs.{start_behind, text_by}
+use Rattle.fugue_ids.specs.Runs.{start_after, text_by}
 use Rattle.fugue_ids.specs.Ops.{op_eq}
 use Rattle.fugue_ids.specs.declared.op.Op.{Op}
 use Rattle.fugue_ids.specs.declared.op.Op.TheVariants.{Section, Text, Delete, Note}
@@ -42,13 +42,13 @@ scalar_in (Note id named code body) = 0
 
 -- the Text that would go on with the run
 abbrev pub next_text : Run → ℕ → Op
-next_text run ch = text_by (start_behind (start_of run) (length run.text)) ch
+next_text run ch = text_by (start_after (start_of run) (length run.text)) ch
 
 -- a run with one letter more
 abbrev pub run_more : Run → ℕ → Run
 run_more run ch = record { id = run.id; section = run.section; left = run.left; right = run.right; text = run.text ++ ch ∷ [] }
 
--- the run with the operation behind it, where it has room and the operation is the next one
+-- the run with the operation after it, where it has room and the operation is the next one
 abbrev pub longer : Run → Op → Option Item
 longer run op = if nat_lt (length run.text) 1024
     && op_eq op (next_text run (scalar_in op)) then Some (Typed (run_more run (scalar_in op))) else None
@@ -75,6 +75,6 @@ abbrev pub items : List Op → List Item
 items [] = []
 items (op ∷ ops) = items_from (Single op) ops
 
--- the frames of the operations, one behind the other: this is what `IsWritten` says
+-- the frames of the operations, one after the other: this is what `IsWritten` says
 abbrev pub frames : List Op → List ℕ
 frames ops = flat_map item_bytes (items ops)

@@ -1,4 +1,4 @@
--- A stream behind another one.
+-- A stream after another one.
 use Rattle.std.specs.Prelude.{ℕ, ◌+◌, List, ◌++◌, length}
 use Rattle.fugue_ids.specs.declared.op.Op.{Op}
 use Rattle.origin_model.specs.declared.grammar.Grammar.{Grammar}
@@ -10,7 +10,7 @@ end_further n Whole = Whole
 end_further n (CutShort k) = CutShort (n + k)
 end_further n (BadFrame k) = BadFrame (n + k)
 
--- a whole stream and another one behind it read as the operations of the first and then those of the second, and end as the second does
+-- a whole stream and another one after it read as the operations of the first and then those of the second, and end as the second does
 abbrev pub StreamsJoin : Type 0
 StreamsJoin =
     (grammar : Grammar) (first second : List ℕ) (ops more : List Op) (end : End) → Reads grammar first ops Whole

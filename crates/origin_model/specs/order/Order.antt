@@ -12,7 +12,7 @@ use Rattle.origin_model.specs.operations.History.{is_own, holder, left_of, right
 abbrev pub IsOrderedBy : (Identifier → Identifier → Bool) → List Identifier → Type 0
 IsOrderedBy R xs = AllPairs (λ x y. R x y ≡ true) xs
 
--- the chain down to x: none is next to the first member, each is next to the one behind it, and the last is x;
+-- the chain down to x: none is next to the first member, each is next to the one after it, and the last is x;
 -- by cases, since `if` computes both branches, and examples would take twice as long with each operation
 unfoldable pub chain : (List Op → Op → Option Identifier) → List Op → Identifier → List Identifier
 chain next [] x = []
@@ -55,7 +55,7 @@ chain_before prefix_first at_fork [] (b ∷ bs) = prefix_first
 chain_before prefix_first at_fork (a ∷ as') [] = not prefix_first
 chain_before prefix_first at_fork (a ∷ as') (b ∷ bs) = if id_eq a b then chain_before prefix_first at_fork as' bs else at_fork a b
 
--- how many elements of a finished list stand before an origin: the end stands behind them all
+-- how many elements of a finished list stand before an origin: the end stands after them all
 abbrev pub index_of_origin : List Identifier → Option Identifier → ℕ
 index_of_origin finished r = position_or_len (λ e. origin_eq r (Some e)) finished
 
@@ -85,7 +85,7 @@ sibling finished history u v = chain_before false (fork_before finished history)
 abbrev pub before_in : List Identifier → List Op → Identifier → Identifier → Bool
 before_in finished history x y = chain_before true (sibling finished history) (lefts history x) (lefts history y)
 
--- an element goes in behind as many others as stand before it
+-- an element goes in after as many others as stand before it
 abbrev pub placed : (Identifier → Bool) → List Identifier → Identifier → List Identifier
 placed stands_before finished x = insert finished (count_by stands_before finished) x
 

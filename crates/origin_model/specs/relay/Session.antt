@@ -8,7 +8,7 @@ use Rattle.fugue_ids.specs.declared.op.Op.{Op}
 use Rattle.origin_model.specs.declared.grammar.Grammar.TheVariants.{Version2}
 use Rattle.origin_model.specs.frames.Frames.{IsFrame, IsPartial, frame}
 
--- the message that begins a text, with a cursor behind it, and the one that ends it
+-- the message that begins a text, with a cursor after it, and the one that ends it
 abbrev pub greeting : ℕ
 greeting = 0x48
 
@@ -35,7 +35,7 @@ pub record Taken : Type 0 where
   pub log : List (List ℕ)
   pub next : Next
 
--- the session goes on behind a whole message
+-- the session goes on after a whole message
 abbrev pub session_goes_on : List (List ℕ) → (cursor : ℕ) → Taken
 session_goes_on log cursor = record { log = log; next = Goes (record { cursor = Some cursor; rest = [] }) }
 
@@ -104,7 +104,7 @@ abbrev pub TakesByte : (limit : ℕ) → List (List ℕ) → (cursor : Option �
 TakesByte limit log None bytes after = after ≡ greeting_read log bytes
 TakesByte limit log (Some cursor) bytes after = (kind : Kind) × IsKind kind bytes × (after ≡ handled kind limit log cursor bytes)
 
--- one byte more of a text; it counts for nothing behind the one that closed the session
+-- one byte more of a text; it counts for nothing after the one that closed the session
 abbrev pub TakesOne : (limit byte : ℕ) → List (List ℕ) → Next → Taken → Type 0
 TakesOne limit byte log (Goes reading) after = TakesByte limit log reading.cursor (reading.rest ++ byte ∷ []) after
 TakesOne limit byte log (Closes reply) after = after ≡ record { log = log; next = Closes reply }

@@ -81,7 +81,7 @@ abbrev pub KeysStay : Type 0
 KeysStay = (p : Place) (op : Op) (older : List Op) → Lawful (op ∷ older)
     → with_keys (op ∷ older) (order p older) ≡ with_keys older (order p older)
 
--- an element behind its left origin, with the same right origin, as in a passage that is typed, is deeper by one, and its forest is 0
+-- an element after its left origin, with the same right origin, as in a passage that is typed, is deeper by one, and its forest is 0
 abbrev pub RunKey : Type 0
 RunKey =
     (h : List Op) (x y : Identifier) (first second : Op) → Lawful h → holder h x ≡ Some first → holder h y ≡ Some second

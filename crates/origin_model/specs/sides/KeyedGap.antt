@@ -21,7 +21,7 @@ widest d = record { depth = d; forest = 2 ^ 32 - 1 }
 abbrev pub block_end : List Keyed → ℕ → Identifier → Identifier
 block_end es d s = unwrap_or (last_id (front_of (first_low (widest d) (rest_of (Some s) es)) es)) s
 
--- the first of the block of q, which has key k: behind the last one before q whose key is at most k, or behind the
+-- the first of the block of q, which has key k: after the last one before q whose key is at most k, or after the
 -- beginning, the next that is no deeper than q
 abbrev pub block_start : List Keyed → Key → Identifier → Identifier
 block_start es k q = unwrap_or (first_low (widest k.depth) (rest_of (last_low k (front_of (Some q) es)) es)) q
@@ -43,7 +43,7 @@ abbrev pub part_from : List Keyed → Slot → Key → Option Identifier
 part_from es (RightOf l) k = l
 part_from es (LeftOf q) k = last_low k (front_of (Some q) es)
 
--- what stands directly behind that part
+-- what stands directly after that part
 abbrev pub part_to : List Keyed → Slot → Key → Option Identifier
 part_to es (RightOf None) k = None
 part_to es (RightOf (Some l)) k = first_low (widest k.depth) (rest_of (Some l) es)
@@ -62,21 +62,21 @@ abbrev pub before_all : Option Identifier → Gap
 before_all None = Alone
 before_all (Some x) = Before x
 
--- the gap without an earlier sibling: before all at the start, behind the parent of right children, and before the block
+-- the gap without an earlier sibling: before all at the start, after the parent of right children, and before the block
 -- of the parent of left ones
 abbrev pub no_earlier_gap : List Keyed → Slot → Key → Gap
 no_earlier_gap es (RightOf None) k = before_all (first_id es)
 no_earlier_gap es (RightOf (Some l)) k = After l
 no_earlier_gap es (LeftOf q) k = Before (block_start es k q)
 
--- the gap, by the last earlier sibling: behind its block
-abbrev pub gap_behind : List Keyed → Slot → Key → Option Identifier → Gap
-gap_behind es s k None = no_earlier_gap es s k
-gap_behind es s k (Some e) = After (block_end es (child_key s k).depth e)
+-- the gap, by the last earlier sibling: after its block
+abbrev pub gap_after : List Keyed → Slot → Key → Option Identifier → Gap
+gap_after es s k None = no_earlier_gap es s k
+gap_after es s k (Some e) = After (block_end es (child_key s k).depth e)
 
 -- the gap of a new child of the slot, whose element has key k, where g says which siblings go before it
 abbrev pub gap_by_keys : List Keyed → Slot → Key → (Identifier → Bool) → Gap
-gap_by_keys es s k g = gap_behind es s k (last_passing g (siblings es s k))
+gap_by_keys es s k g = gap_after es s k (last_passing g (siblings es s k))
 
 -- the gap between two origins that stand next to each other
 abbrev pub gap_between : (left right : Option Identifier) → Gap

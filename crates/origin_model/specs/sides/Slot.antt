@@ -75,7 +75,7 @@ pub record BeforeFirst (children : Slot → List Identifier) (later : List Ident
   pub is_first : later ≡ later_sibling ∷ rest
   pub block : BeforeBlock children later_sibling y
 
--- the gap where x has no earlier sibling: behind the parent of right children, before the first node below the parent of left children,
+-- the gap where x has no earlier sibling: after the parent of right children, before the first node below the parent of left children,
 -- before all for the first right child of the start, and alone for its only one
 abbrev pub NoEarlierSibling : (Slot → List Identifier) → Slot → List Identifier → Gap → Type 0
 NoEarlierSibling children (RightOf (Some l)) later (After y) = l ≡ y
@@ -84,7 +84,7 @@ NoEarlierSibling children (RightOf None) later (Before y) = BeforeFirst children
 NoEarlierSibling children (RightOf None) later Alone = later ≡ []
 NoEarlierSibling _ _ _ _ = ⊥
 
--- the gap where x has earlier siblings: behind the last node below the last of them
+-- the gap where x has earlier siblings: after the last node below the last of them
 abbrev pub HasEarlierSibling : (Slot → List Identifier) → List Identifier → Gap → Type 0
 HasEarlierSibling children earlier (After y) = AfterEarlierSibling children earlier y
 HasEarlierSibling _ _ _ = ⊥
@@ -94,10 +94,10 @@ abbrev pub IsGap : (Slot → List Identifier) → Slot → List Identifier → L
 IsGap children s [] later g = NoEarlierSibling children s later g
 IsGap children s (e ∷ es) later g = HasEarlierSibling children (e ∷ es) g
 
--- x inserted directly behind y, and at the end where there is no y
-abbrev pub inserted_behind : Identifier → Identifier → List Identifier → List Identifier
-inserted_behind y x [] = x ∷ []
-inserted_behind y x (e ∷ es) = if id_eq e y then e ∷ x ∷ es else e ∷ inserted_behind y x es
+-- x inserted directly after y, and at the end where there is no y
+abbrev pub inserted_after : Identifier → Identifier → List Identifier → List Identifier
+inserted_after y x [] = x ∷ []
+inserted_after y x (e ∷ es) = if id_eq e y then e ∷ x ∷ es else e ∷ inserted_after y x es
 
 -- x inserted directly before y
 abbrev pub inserted_before : Identifier → Identifier → List Identifier → List Identifier
@@ -108,7 +108,7 @@ inserted_before y x (e ∷ es) = if id_eq e y then x ∷ e ∷ es else e ∷ ins
 abbrev pub at_gap : Gap → Identifier → List Identifier → List Identifier
 at_gap Alone x es = x ∷ es
 at_gap (Before y) x es = inserted_before y x es
-at_gap (After y) x es = inserted_behind y x es
+at_gap (After y) x es = inserted_after y x es
 
 -- the gap's neighbour is a member
 abbrev pub IsBeside : Gap → List Identifier → Type 0

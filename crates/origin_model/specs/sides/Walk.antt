@@ -39,7 +39,7 @@ abbrev pub child_before : List Identifier → List Op → Slot → Identifier �
 child_before finished h (RightOf l) u v = fork_before finished h u v
 child_before finished h (LeftOf q) u v = id_lt u v
 
--- members sorted: each goes in behind as many others as stand before it
+-- members sorted: each goes in after as many others as stand before it
 abbrev pub sorted : (Identifier → Identifier → Bool) → List Identifier → List Identifier
 sorted R [] = []
 sorted R (x ∷ xs) = placed (λ y. R y x) (sorted R xs) x

@@ -123,7 +123,7 @@ SettlingEnds = (s : Held) → IsSettled (settle s)
 abbrev pub StaysSettled : Type 0
 StaysSettled = (hold most : ℕ) (s : Held) (ops : List Op) → IsSettled s → IsSettled (held_from hold most s ops)
 
--- a file's operations, with those behind them that a replica of that file kept of a list
+-- a file's operations, with those after them that a replica of that file kept of a list
 pub record IsSaved (hold most : ℕ) (file ops : List Op) : Type 0 where
   pub same_state : held hold most (file ++ kept_from hold most (held hold most file) ops) ≡ held_from hold most (held hold most file) ops
   pub within_limits : WithinLimits (answers hold most file)
@@ -131,7 +131,7 @@ pub record IsSaved (hold most : ℕ) (file ops : List Op) : Type 0 where
   pub has_place : MeetsNoLimit hold most nothing_held file
       → MeetsNoLimit hold most nothing_held (file ++ kept_from hold most (held hold most file) ops)
 
--- saving the kept operations behind those of the file saves the state, and the file meets no limit that it did not meet before;
+-- saving the kept operations after those of the file saves the state, and the file meets no limit that it did not meet before;
 -- where nothing was refused for want of a place, nothing is, even if something was Full
 abbrev pub SavedSuffice : Type 0
 SavedSuffice = (hold most : ℕ) (file ops : List Op) → IsSaved hold most file ops

@@ -1,3 +1,5 @@
+//! An element of a list with its left and right origin.
+
 use fugue_ids::ElementId;
 
 /// An element with its origins.

@@ -46,10 +46,10 @@ abbrev pub out_to : ℕ → DockView → OutView
 out_to session dock = record { written = dock.sent session; faults = dock.faults; room = dock.room session }
 
 -- a session more was ended, which had been sent these bytes
-abbrev pub ended_behind : Option (List ℕ) → Option (List ℕ) → Option (List ℕ)
-ended_behind None sent = None
-ended_behind (Some counts) None = None
-ended_behind (Some counts) (Some sent) = Some (counts ++ length sent ∷ [])
+abbrev pub ended_after : Option (List ℕ) → Option (List ℕ) → Option (List ℕ)
+ended_after None sent = None
+ended_after (Some counts) None = None
+ended_after (Some counts) (Some sent) = Some (counts ++ length sent ∷ [])
 
 -- nothing was sent
 pub record SendsNothing (old new : DockView) : Type 0 where
@@ -65,7 +65,7 @@ pub record TakesNothing (old new : DockView) : Type 0 where
 abbrev pub listening_of : (port : ℕ) → DockView → Listening
 listening_of port dock = record { port = port; taken = option_map length dock.taken }
 
--- it listened on the port once, behind the steps that were taken at first and before all others
+-- it listened on the port once, after the steps that were taken at first and before all others
 abbrev pub ListensOnce : (old new : DockView) → (port : ℕ) → Type 0
 ListensOnce old new port = new.listens ≡ option_map (once_more (listening_of port old)) old.listens
 
@@ -111,7 +111,7 @@ pub record Sends {E : Type 0} (old new : DockView) (result : Result ℕ E) (sess
 pub record EndsSession {E T : Type 0} (old new : DockView) (result : Result T E) (session : ℕ) : Type 0 where
   pub ended : OnOk result (new.ended ≡ append_known old.ended (session ∷ []))
   pub kept : OnErr result (new.ended ≡ old.ended)
-  pub ended_at : OnOk result (new.ended_at ≡ ended_behind old.ended_at (old.sent session))
+  pub ended_at : OnOk result (new.ended_at ≡ ended_after old.ended_at (old.sent session))
   pub kept_at : OnErr result (new.ended_at ≡ old.ended_at)
   pub ends : OnOk result (new.ends ≡ option_map (λ ends. ends - 1) old.ends)
   pub same_ends : OnErr result (new.ends ≡ old.ends)

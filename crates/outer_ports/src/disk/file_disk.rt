@@ -1,10 +1,12 @@
+//! A disk over a file of the system: opening, locking, reading, writing and syncing.
+
 ghost use Rattle.std.specs.Prelude.{◌≡◌, ◌≢◌, ◌↔◌, ◌⊎◌, None, IfOk, IsErr, IsFalse, IsOk, IsSome, IsTrue};
 ghost use Rattle.outer_ports.specs.Counts.{CountsFaults};
 ghost use Rattle.outer_ports.specs.disk.Disks.{Sizes, ReadsAt, WritesAt, Syncs};
 ghost use Rattle.outer_ports.specs.declared.disk.file_disk.Opening.TheVariants.{Creating, Reading};
 
 use crate::faults::Faults;
-use crate::{Disk, again};
+use crate::{Disk, retry};
 use fugue_ids::Failed;
 use std::fs::{self, File, Files, OpenFile, OpenOptions};
 use std::io::{self, ErrorKind};
@@ -125,7 +127,7 @@ impl FileDisk {
     }
 }
 
-/// Makes the file, or opens the one that is there. The answer is whether it was made.
+/// Makes the file, or opens the one that is there. Returns whether it was made.
 fn create_file<R: Files<File = File>>(files: &R, path: &str) -> io::Result<(File, bool)> {
     let made = OpenOptions::new()
         .read(true)
@@ -163,8 +165,8 @@ fn lock_file<R: Files<File = File>>(files: &R, path: &str, file: &File) -> io::R
 
 /// Whether the path leads to the file.
 fn leads_to<R: Files<File = File>>(files: &R, path: &str, file: &File) -> io::Result<bool> {
-    let open = again::metadata_of(file)?;
-    match again::metadata(files, path) {
+    let open = retry::metadata_of(file)?;
+    match retry::metadata(files, path) {
         Ok(named) => {
             Ok(open.nlink() > 0 && named.dev() == open.dev() && named.ino() == open.ino())
         }
@@ -175,7 +177,7 @@ fn leads_to<R: Files<File = File>>(files: &R, path: &str, file: &File) -> io::Re
 
 /// Opens the regular file that is there.
 fn open_file<R: Files<File = File>>(files: &R, path: &str, opening: Opening) -> io::Result<File> {
-    let metadata = again::metadata(files, path)?;
+    let metadata = retry::metadata(files, path)?;
     if metadata.is_dir() {
         return Err(io::Error::from(ErrorKind::IsADirectory));
     }
@@ -214,7 +216,7 @@ impl Disk for FileDisk {
         ensures missing { self.old.file ≡ None → IsErr result }
     {
         let given = self.faults.pass(match &self.file {
-            Some(file) => again::read_at(file, buf, at),
+            Some(file) => retry::read_at(file, buf, at),
             None => Err(not_open()),
         })?;
         // Who has no lock may have read what another program has not synced yet.
@@ -279,7 +281,7 @@ fn is_unable(kind: ErrorKind) -> bool {
 }
 
 fn length_of(file: &File) -> io::Result<u64> {
-    Ok(again::metadata_of(file)?.len())
+    Ok(retry::metadata_of(file)?.len())
 }
 
 /// Why a call on a file that could not be opened fails.

@@ -1,3 +1,5 @@
+//! A listener on a TCP port of the loopback interface, which serves one connection at a time.
+
 ghost use Rattle.std.specs.Prelude.{◌≡◌, ◌≢◌, ◌<◌, ◌*◌, length, true, false, Ok, None, IsErr, IsOk, IsSome, IfOk, OnOk};
 ghost use Rattle.std.specs.Prelude.{OnErr};
 ghost use Rattle.std.specs.Io.{ReadsAtMost, WritesAtMost};
@@ -9,11 +11,11 @@ ghost use Rattle.outer_ports.specs.dock.Steps.{InTurn};
 ghost use Rattle.outer_ports.specs.dock.Docks.{Listens, Takes, Sends, EndsSession};
 ghost use Rattle.outer_ports.specs.dock.Streams.{Accepts, Brings, GoesNowhere, Reaches, Stays};
 
-use crate::again::MOST_CALLS;
 use crate::causes::tell_port;
 use crate::faults::{Faults, taken};
+use crate::retry::MOST_CALLS;
 use crate::watch::Watch;
-use crate::{Dock, DockStep, again};
+use crate::{Dock, DockStep, retry};
 use fugue_ids::Failed;
 use std::io::{self, ErrorKind, Read, Write};
 use std::net::{Ipv4Addr, Net, OpenListener, OpenStream, Shutdown, TcpListener};
@@ -159,7 +161,7 @@ fn read_in_time<S: Read + OpenStream>(
     ensures bytes { ReadConsumes (S.remaining stream.old) (S.remaining stream.new) result buf.new }
 {
     limit_by(clock, watch, stream)?;
-    again::read(stream, buf)
+    retry::read(stream, buf)
 }
 
 /// Writes once, while the session has time.
@@ -173,7 +175,7 @@ fn write_in_time<S: Write + OpenStream>(
     ensures bytes { WriteAppends (S.contents stream.old) (S.contents stream.new) result piece.now }
 {
     limit_by(clock, watch, stream)?;
-    again::write(stream, piece)
+    retry::write(stream, piece)
 }
 
 fn limit_by<S: OpenStream>(clock: &impl Clock, watch: Option<Watch>, stream: &S) -> io::Result<()> {

@@ -1,3 +1,5 @@
+//! Bytes that were read from a connection before anybody asked for them.
+
 ghost use Rattle.std.specs.Prelude.{◌≡◌, ◌<◌, [], ◌++◌, length, take, min, Ok, IsTrue, IsFalse, IfOk, OnOk};
 ghost use Rattle.std.specs.Io.KnownBytes.{IsAtEnd, Keeps, prepend_known};
 

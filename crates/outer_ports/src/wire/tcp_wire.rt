@@ -1,3 +1,5 @@
+//! A client's TCP connections to a port of the loopback interface, over a buffer.
+
 ghost use Rattle.std.specs.Prelude.{◌≡◌, ◌<◌, length, None, IsErr, IsSome, IfOk, OnOk, OnErr, []};
 ghost use Rattle.std.specs.Io.{ReadsAtMost, WritesAtMost};
 ghost use Rattle.outer_ports.specs.Counts.{CountsFaults};
@@ -9,7 +11,7 @@ use crate::causes::tell_port;
 use crate::faults::{Faults, taken};
 use crate::watch::{limit, patience};
 use crate::wire::ahead::Ahead;
-use crate::{Wire, again};
+use crate::{Wire, retry};
 use fugue_ids::Failed;
 use std::io::{self, ErrorKind, Read, Write};
 use std::net::{Ipv4Addr, Net, OpenStream, SocketAddr, SocketAddrV4, TcpStream};
@@ -151,7 +153,7 @@ fn hear<S: Read>(stream: &mut Option<S>, buf: &mut [u8]) -> io::Result<usize>
     ensures stream { Hears S.remaining stream.old stream.new result buf.new }
 {
     match stream {
-        Some(stream) => again::read(stream, buf),
+        Some(stream) => retry::read(stream, buf),
         None => Err(io::Error::from(ErrorKind::NotConnected)),
     }
 }
@@ -164,7 +166,7 @@ fn say<S: Write>(stream: &mut Option<S>, piece: &[u8]) -> io::Result<usize>
     ensures stream { Says S.contents stream.old stream.new result piece.now }
 {
     match stream {
-        Some(stream) => taken(again::write(stream, piece), piece),
+        Some(stream) => taken(retry::write(stream, piece), piece),
         None => Err(io::Error::from(ErrorKind::NotConnected)),
     }
 }

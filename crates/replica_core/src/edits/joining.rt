@@ -33,8 +33,8 @@ impl Replica {
         }
     }
 
-    /// Types a text, each scalar behind the one before it: all of it, or none after want of memory. The answer is how many
-    /// there are.
+    /// Types a text, each scalar after the one before it: all of it, or none after an allocation failure. Returns how
+    /// many there are.
     pub(crate) fn type_text(&mut self, spot: TextSpot, text: &str) -> Result<u32, NoMemory>
         requires sound { IsSound self.old }
         requires can_join { CanJoin self.old (typed_at self.old.number spot (chars text.now)) }

@@ -10,8 +10,8 @@ use crate::{EditFault, Replica};
 /// How many counters there are.
 const COUNTERS: u64 = 1 << 32;
 
-/// The counter behind the greatest one.
-fn next_behind(greatest: Option<u32>) -> u64
+/// The counter after the greatest one.
+fn next_after(greatest: Option<u32>) -> u64
     ensures value { result ≡ next_above greatest }
     ensures within { result ≤ 2 ^ 32 }
 {
@@ -47,7 +47,7 @@ impl Replica {
         ensures sound { IsSound self.now }
     {
         let greatest = self.greatest_counter();
-        let next = next_behind(greatest);
+        let next = next_after(greatest);
         if count as u64 > COUNTERS - next {
             return Err(EditFault::IdsSpent(greatest.unwrap_or(0)));
         }

@@ -191,8 +191,8 @@ pub(crate) struct Origins {
     pub right: Option<ElementId>,
 }
 
-/// The origins of an element that comes before the shown one at the position, or behind all of them: the right one is
-/// the next of all elements, hidden or not. There are none for a position behind the end.
+/// The origins of an element that comes before the shown one at the position, or after all of them: the right one is
+/// the next of all elements, hidden or not. There are none for a position after the end.
 pub(crate) fn origins_at(place: &SectionList, at: usize) -> Option<Origins>
     ensures behind { result ≡ None → length (cells_shown place.now.cells) < at }
     ensures inside { IfSome result (λ o. at ≤ length (cells_shown place.now.cells)) }
@@ -217,7 +217,7 @@ fn left_of(place: &SectionList, at: usize) -> Option<ElementId>
     }
 }
 
-/// The element behind the left origin.
+/// The element after the left origin.
 fn right_of(place: &SectionList, left: &Option<ElementId>) -> Option<ElementId>
     ensures { result ≡ following (cell_ids place.now.cells) left.now }
 {

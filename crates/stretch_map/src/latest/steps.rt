@@ -1,3 +1,5 @@
+//! The calls of the map of last stretches, one for each replica.
+
 ghost use Rattle.std.specs.Prelude.{◌≡◌, [], IfNone, IfSome, IsSome, None, OnErr, OnOk, Some};
 ghost use Rattle.stretch_map.specs.Stretches.{IsLatestUpTo, LatestBecomes, NoLatestUpTo, latest_at};
 
@@ -48,7 +50,8 @@ impl<V: Copy> LatestMap<V> {
         Some((first, stretch))
     }
 
-    /// This stretch is the last one of its replica, which may have had none. After want of memory all is as before.
+    /// This stretch is the last one of its replica, which may have had none. After an allocation failure all is as
+    /// before.
     pub fn insert(&mut self, first: ElementId, stretch: Stretch<V>) -> Result<(), NoMemory>
         ensures ok { OnOk result (LatestBecomes self.old.by_replica.entries self.new.by_replica.entries first.replica
             (Some (first.counter, stretch))) }

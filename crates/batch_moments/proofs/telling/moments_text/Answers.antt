@@ -23,7 +23,7 @@ moments-preserved c =
           ap (λ t. t ++ rest) (c.in_ok-put_line.ensures.line ∙ ap (λ (l : List Op). text ++ line_text (record { moment = moment; parts = reported_parts l })) came)
           ∙ append_assoc text line rest
           ∙ ap (λ l. text ++ flat_map line_text l) (sym (lines_next moments i moment below refl c.moments.from ops)) ∙ c.moments.invariant.left;
-      rest = c.behind_moment-rest.ensures;
+      rest = c.after_moment-rest.ensures;
     }
 
 pub returns : goal.returns

@@ -1,5 +1,5 @@
 use Rattle.std.proofs.Common.{arith, ℕ, ◌+◌, ◌-◌, ◌/◌, ◌<◌, ◌≤◌, get_or, length}
-use Rattle.causal_inbox.proofs.SpacedLemmas.{gap_behind, is_passed, not_passed, passed_within}
+use Rattle.causal_inbox.proofs.SpacedLemmas.{gap_after, is_passed, not_passed, passed_within}
 use Rattle.causal_inbox.proofs.gapped.gaps_before.Goals as goal
 
 pub halves-init : goal.halves-init
@@ -14,13 +14,13 @@ pub overflow_sub-gaps : goal.overflow_sub-gaps
 overflow_sub-gaps c =
     let middle : ℕ = c.halves.low + (c.halves.high - c.halves.low) / 2 in
     let in_list : middle < length c.args.gaps.now = omega (arith, c.halves-test.true, c.halves.invariant.within) in
-    omega (arith, gap_behind c.requires.from c.args.gaps.now c.requires.end middle c.requires.in_order in_list)
+    omega (arith, gap_after c.requires.from c.args.gaps.now c.requires.end middle c.requires.in_order in_list)
 
 pub halves-preserved-then-gaps-middle : goal.halves-preserved-then-gaps-middle
 halves-preserved-then-gaps-middle c =
     let middle : ℕ = c.halves.low + (c.halves.high - c.halves.low) / 2 in
     let in_list : middle < length c.args.gaps.now = omega (arith, c.halves-test.true, c.halves.invariant.within) in
-    let behind : c.requires.from + middle ≤ get_or c.args.gaps.now middle 0 = gap_behind c.requires.from c.args.gaps.now c.requires.end middle c.requires.in_order in_list in
+    let behind : c.requires.from + middle ≤ get_or c.args.gaps.now middle 0 = gap_after c.requires.from c.args.gaps.now c.requires.end middle c.requires.in_order in_list in
     record {
       order = omega (arith, c.halves-test.true);
       within = c.halves.invariant.within;

@@ -4,7 +4,7 @@ use Rattle.causal_inbox.specs.Gap.{AreGaps, between_gaps}
 use Rattle.causal_inbox.proofs.SpacedLemmas.{gaps_end, joined}
 use Rattle.causal_inbox.proofs.gapped.join_gaps.Goals as goal
 
--- the next gap, behind the one that there is
+-- the next gap, after the one that there is
 next_gap : (from : ℕ) (gaps : List ℕ) (i end : ℕ) → i < length gaps → AreGaps from (drop i gaps) end → AreGaps from (get_or gaps i 0 ∷ drop (i + 1) gaps) end
 next_gap from gaps i end within = subst (λ l. AreGaps from l end) (drop_more gaps i 0 within)
 
@@ -35,10 +35,10 @@ gaps-preserved g c =
     record {
       size = omega (arith, c.gaps.invariant.size);
       len = c.move_gap.ensures.len ∙ c.gaps.invariant.len;
-      behind_gone = omega (arith, next.0, c.gaps.invariant.behind_gone);
+      after_gone = omega (arith, next.0, c.gaps.invariant.after_gone);
       in_order = subst (λ n. AreGaps n others (length c.move_gap.new.items)) on (subst (AreGaps (gap + 1) others) (sym c.move_gap.ensures.len) next.1);
       items = ap (λ n. drop c.args.gone (take (gap - size) c.move_gap.new.items) ++ between_gaps c.move_gap.new.items n others) (sym on)
-          ∙ joined c.gaps.items c.move_gap.new.items c.args.gone at size gap others c.gaps.invariant.behind_gone next c.move_gap.ensures.len c.move_gap.ensures.items
+          ∙ joined c.gaps.items c.move_gap.new.items c.args.gone at size gap others c.gaps.invariant.after_gone next c.move_gap.ensures.len c.move_gap.ensures.items
           ∙ ap (λ l. drop c.args.gone (take at c.gaps.items) ++ between_gaps c.gaps.items (at + size) l) (sym (drop_more c.args.gaps.now c.gaps.gap-index 0 c.gaps-test.true))
           ∙ c.gaps.invariant.items;
     }

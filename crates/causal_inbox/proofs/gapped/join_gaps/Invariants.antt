@@ -7,7 +7,7 @@ abbrev pub invariant-gaps : goal.invariant-gaps
 invariant-gaps g l = record {
   size : l.size ≡ l.gap-index;
   len : length l.items ≡ length l.initial.items;
-  behind_gone : l.gone ≤ l.at;
+  after_gone : l.gone ≤ l.at;
   in_order : AreGaps (l.at + l.size) (drop l.gap-index l.gaps) (length l.items);
   items : drop l.gone (take l.at l.items) ++ between_gaps l.items (l.at + l.size) (drop l.gap-index l.gaps) ≡ between_gaps l.initial.items l.gone l.gaps;
 }

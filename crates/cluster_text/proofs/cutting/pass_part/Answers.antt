@@ -4,7 +4,7 @@ use Rattle.std.proofs.Common.{length-append}
 use Rattle.std.specs.Prelude.{encode_utf8}
 use Rattle.cluster_text.specs.Cuts.{IsPassed}
 use Rattle.cluster_text.specs.declared.ending.Ending.{Ending}
-use Rattle.cluster_text.proofs.TextLemmas.{cut_at_border, cut_at_end, passed-next, passed-none}
+use Rattle.cluster_text.proofs.TextLemmas.{cut_at_boundary, cut_at_end, passed-next, passed-none}
 use Rattle.cluster_text.proofs.cutting.pass_part.Goals as goal
 
 pub scalars-init : goal.scalars-init
@@ -12,7 +12,7 @@ scalars-init c = (c.utf8.text, passed-none c.args.text.now c.new-ending.result c
 
 pub returns-then-opens : goal.returns-then-opens
 returns-then-opens c =
-    cut_at_border c.args.text.now c.scalars.rest.now c.in-Some.behind.now c.scalars.ending c.in-Some.next c.scalars.invariant.1
+    cut_at_boundary c.args.text.now c.scalars.rest.now c.in-Some.behind.now c.scalars.ending c.in-Some.next c.scalars.invariant.1
     (omega (arith, c.if-text-rest-ge-SHORT.true)) c.in-Some.ensures.some
     (sym c.is_closed.ensures ∙ c.if-is_closed.true) (sym c.opens.ensures ∙ c.if-opens.true)
 

@@ -15,14 +15,14 @@ split_at-requires-2 c = splits-boundary _ _ _ c.pass_part-rest.ensures.splits
 
 pub returns-clause-part : goal.returns-clause-part
 returns-clause-part c =
-    let border = c.pass_part-rest.ensures in
-    front_alone c.args.text.now c.pass_part-rest.result.now border c.utf8.text c.requires c.split_at-2.result.0.now (c.split_at-2.ensures.front ∙ splits-front _ _ _ border.splits)
+    let boundary = c.pass_part-rest.ensures in
+    front_alone c.args.text.now c.pass_part-rest.result.now boundary c.utf8.text c.requires c.split_at-2.result.0.now (c.split_at-2.ensures.front ∙ splits-front _ _ _ boundary.splits)
 
 pub returns-clause-rest : goal.returns-clause-rest
 returns-clause-rest c =
-    let border = c.pass_part-rest.ensures in
-    subst (λ t. IsWhole t) (sym (c.split_at-2.ensures.back ∙ splits-rest _ _ _ border.splits))
-    (rest_alone c.args.text.now c.pass_part-rest.result.now border c.utf8.text c.requires)
+    let boundary = c.pass_part-rest.ensures in
+    subst (λ t. IsWhole t) (sym (c.split_at-2.ensures.back ∙ splits-rest _ _ _ boundary.splits))
+    (rest_alone c.args.text.now c.pass_part-rest.result.now boundary c.utf8.text c.requires)
 
 pub returns-then-text-le-LONG-clause-utf8 : goal.returns-then-text-le-LONG-clause-utf8
 returns-then-text-le-LONG-clause-utf8 c =
@@ -30,11 +30,11 @@ returns-then-text-le-LONG-clause-utf8 c =
 
 pub returns-clause-utf8 : goal.returns-clause-utf8
 returns-clause-utf8 c =
-    let border = c.pass_part-rest.ensures in
-    subst IsUtf8 (sym (c.split_at-2.ensures.back ∙ splits-rest _ _ _ border.splits)) border.splits.utf8
+    let boundary = c.pass_part-rest.ensures in
+    subst IsUtf8 (sym (c.split_at-2.ensures.back ∙ splits-rest _ _ _ boundary.splits)) boundary.splits.utf8
 
 pub returns-clause-shorter : goal.returns-clause-shorter
 returns-clause-shorter c =
-    let border = c.pass_part-rest.ensures in
-    let shorter = cut_shorter c.args.text.now c.pass_part-rest.result.now border c.utf8.text c.requires in
-    omega (arith, ap length (c.split_at-2.ensures.back ∙ splits-rest _ _ _ border.splits), shorter)
+    let boundary = c.pass_part-rest.ensures in
+    let shorter = cut_shorter c.args.text.now c.pass_part-rest.result.now boundary c.utf8.text c.requires in
+    omega (arith, ap length (c.split_at-2.ensures.back ∙ splits-rest _ _ _ boundary.splits), shorter)

@@ -2,7 +2,7 @@ use Rattle.std.proofs.Common.{◌≡◌, ◌≤◌, ◌+◌, ◌-◌, List, ℕ,
 use Rattle.std.specs.Str.{chars}
 use Rattle.std.specs.List.{splice}
 use Rattle.std.specs.Prelude.{encode_utf8_all}
-use Rattle.cluster_text.specs.Borders.{stands_alone}
+use Rattle.cluster_text.specs.Boundaries.{stands_alone}
 use Rattle.cluster_text.specs.Parts.{IsGathered, whole}
 use Rattle.cluster_text.proofs.PartLemmas.{length-le-scalar_count}
 use Rattle.cluster_text.proofs.SpotLemmas.{replaced_is, spot-index, spots_rise, text_alone}

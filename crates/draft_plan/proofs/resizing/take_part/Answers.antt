@@ -62,11 +62,11 @@ returns-clause-taken c =
       section = c.in_ok-section.section;
       targets_are = c.in_ok-keep_section-2.ensures;
       kept = λ i e. cc (e, none);
-      came = λ e. record { number = c.number_behind-number.result; behind = c.number_behind-number.ensures; added = c.in_ok-section.ensures.added };
+      came = λ e. record { number = c.number_after-number.result; behind = c.number_after-number.ensures; added = c.in_ok-section.ensures.added };
     }
 
-pub number_behind-number-requires : goal.number_behind-number-requires
-number_behind-number-requires c = anchored_in c.args.anchor.now c.args.sections.now.items (shown catalogue c.args.replica.now.held.history) c.requires.anchor c.requires.there
+pub number_after-number-requires : goal.number_after-number-requires
+number_after-number-requires c = anchored_in c.args.anchor.now c.args.sections.now.items (shown catalogue c.args.replica.now.held.history) c.requires.anchor c.requires.there
 
 pub returns-in-Some-clause-anchor : goal.returns-in-Some-clause-anchor
 returns-in-Some-clause-anchor c =

@@ -3,7 +3,7 @@ use Rattle.std.proofs.Common.{List, ap, arith, drop, take, ℕ, ◌+◌, ◌-◌
 use Rattle.std.specs.Str.{chars}
 use Rattle.std.proofs.lemmas.Result.{err_from_is_err_and}
 use Rattle.draft_plan.proofs.ReviseLemmas.{hunk_few, typed_whole}
-use Rattle.draft_plan.proofs.TextLemmas.{cut_and_put, cut_limit, cut_stops, hunk_made, put_behind_limit, put_stops}
+use Rattle.draft_plan.proofs.TextLemmas.{cut_and_put, cut_limit, cut_stops, hunk_made, put_after_limit, put_stops}
 use Rattle.draft_plan.proofs.revising.revise_hunk.Goals as goal
 
 pub returns-in_err-cut-clause-stops : goal.returns-in_err-cut-clause-stops
@@ -30,7 +30,7 @@ pub returns-in_err-put-clause-limits : goal.returns-in_err-put-clause-limits
 returns-in_err-put-clause-limits c =
     let p = err_from_is_err_and c.from_residual-in_err-put.result c.from_residual-in_err-put.ensures.1 in
     rw (p.1, p.2)
-    (put_behind_limit c.args.replica.now c.cut.new.self c.args.section c.args.hunk.old_at c.args.hunk.old_len c.in_ok-cut.cut (chars c.as_str.result.now) c.in_err-put.field-0.0
+    (put_after_limit c.args.replica.now c.cut.new.self c.args.section c.args.hunk.old_at c.args.hunk.old_len c.in_ok-cut.cut (chars c.as_str.result.now) c.in_err-put.field-0.0
     c.requires.sound.lawful c.requires.old c.in_ok-cut.ensures.refused c.in_ok-cut.ensures.made c.in_err-put.ensures.refused)
 
 -- the text that is put

@@ -2,7 +2,7 @@ use Rattle.std.proofs.Common.{sym, ap, ◌∙◌, arith}
 use Rattle.node_rope.specs.Made.{shapes_of}
 use Rattle.node_rope.specs.Shapes.{link_number, tree_of}
 use Rattle.node_rope.proofs.WalkLemmas.{below-left}
-use Rattle.node_rope.proofs.BehindLemmas.{first-left, first-here}
+use Rattle.node_rope.proofs.AfterLemmas.{first-left, first-here}
 use Rattle.node_rope.proofs.find.first_node.Goals as goal
 
 pub shape-shape-requires-in-Some : goal.shape-shape-requires-in-Some

@@ -2,7 +2,7 @@ use Rattle.std.proofs.Common.{◌≡◌, Some, inl, inr, suc, refl, sym, ap, ◌
 use Rattle.node_rope.specs.Made.{made_count, shapes_of}
 use Rattle.node_rope.specs.Shapes.{link_number, tree_of}
 use Rattle.node_rope.proofs.ShapeLemmas.{made-below, nearer}
-use Rattle.node_rope.proofs.BehindLemmas.{last-here, last-up, followed-up, followed-top}
+use Rattle.node_rope.proofs.AfterLemmas.{last-here, last-up, followed-up, followed-top}
 use Rattle.node_rope.proofs.find.node_above.Goals as goal
 
 pub up-init : goal.up-init

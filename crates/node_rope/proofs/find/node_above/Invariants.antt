@@ -2,7 +2,7 @@ use Rattle.std.proofs.Common.{◌≡◌, ◌-◌, Some, suc}
 use Rattle.node_rope.specs.Made.{IsMade, made_count, shapes_of}
 use Rattle.node_rope.specs.Shapes.{shape_at, tree_of}
 use Rattle.node_rope.specs.Walk.{all_nodes}
-use Rattle.node_rope.proofs.BehindLemmas.{IsLast}
+use Rattle.node_rope.proofs.AfterLemmas.{IsLast}
 use Rattle.node_rope.proofs.find.node_above.Given as goal
 
 abbrev pub invariant-up : goal.invariant-up

@@ -3,7 +3,7 @@ use Rattle.std.specs.Int.{to_be_bytes, w16}
 use Rattle.op_frame.proofs.RunFrameLemmas.{run_frames}
 use Rattle.op_frame.proofs.encoding.encode_run.Goals as goal
 
--- eight parts one behind the other
+-- eight parts one after the other
 run_parts : (o k a b l r n s o0 o1 o2 o3 o4 o5 o6 o7 : List ℕ) → o0 ≡ o → o1 ≡ o0 ++ k → o2 ≡ o1 ++ a → o3 ≡ o2 ++ b → o4 ≡ o3 ++ l → o5 ≡ o4 ++ r → o6 ≡ o5 ++ n → o7 ≡ o6 ++ s
     → o7 ≡ o ++ (((((k ++ a) ++ b) ++ l) ++ r) ++ (n ++ s))
 run_parts o k a b l r n s o0 o1 o2 o3 o4 o5 o6 o7 p0 p1 p2 p3 p4 p5 p6 p7 = rw (p7, p6, p5, p4, p3, p2, p1, p0) (simp append_assoc)

@@ -1,9 +1,9 @@
 use Rattle.std.proofs.Common.{◌≡◌, ◌∙◌, ap, arith, length, sym}
 use Rattle.std.proofs.lemmas.Bool.{true≢false}
 use Rattle.std.proofs.lemmas.List.{drop_all}
-use Rattle.fugue_ids.specs.Runs.{run_from, start_behind}
+use Rattle.fugue_ids.specs.Runs.{run_from, start_after}
 use Rattle.op_runs.specs.Parts.{ops_of}
-use Rattle.op_runs.specs.Repeats.{same_front}
+use Rattle.op_runs.specs.CommonPrefix.{common_prefix}
 use Rattle.op_runs.specs.declared.part.Part.TheVariants.{Typed}
 use Rattle.op_runs.specs.declared.part.TypedPart.{TypedPart}
 use Rattle.op_runs.proofs.FindLemmas.{all_some, ops_len, part_read}
@@ -21,7 +21,7 @@ spot_of-requires-clause-counted c = c.requires.counted ∙ ops_len c.args.letter
 
 pub returns-in_default : goal.returns-in_default
 returns-in_default c =
-    sym (ap (λ z. same_front z (run_from c.args.start.now c.args.text.now)) (drop_all c.args.position (ops_of c.args.letters.now c.args.others.now c.args.parts.now)
+    sym (ap (λ z. common_prefix z (run_from c.args.start.now c.args.text.now)) (drop_all c.args.position (ops_of c.args.letters.now c.args.others.now c.args.parts.now)
     (omega (arith, c.in_default.ensures.none, ops_len c.args.letters.now c.args.others.now c.args.parts.now c.requires.sound))))
 
 pub returns-then-goes_on : goal.returns-then-goes_on
@@ -41,7 +41,7 @@ returns-else-goes_on c =
     part_read c.args.parts.now c.args.position c.in-Some.spot.part c.in-Some.spot.offset s c.index-parts-spot.result c.index-parts-spot.is ∙ c.in-Typed.is in
     sym (no_repeats c.args.letters.now c.args.others.now c.args.parts.now c.args.position c.in-Some.spot.part c.in-Some.spot.offset s c.requires.sound c.requires.apart
     c.requires.others c.args.start.now c.args.text.now
-    (λ r is e. true≢false (sym (c.goes_on.ensures.1 (e ∙ ap (λ (z : TypedPart). start_behind z.start c.in-Some.spot.offset) (same_run r c.in-Typed.run' (sym is ∙ here))))
+    (λ r is e. true≢false (sym (c.goes_on.ensures.1 (e ∙ ap (λ (z : TypedPart). start_after z.start c.in-Some.spot.offset) (same_run r c.in-Typed.run' (sym is ∙ here))))
     ∙ c.if-goes_on.false)))
 
 pub returns-in_default-parts : goal.returns-in_default-parts

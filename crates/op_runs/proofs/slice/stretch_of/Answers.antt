@@ -5,7 +5,7 @@ use Rattle.fugue_ids.specs.declared.run.RunStart.{RunStart}
 use Rattle.op_runs.specs.Parts.{IsSoundPart, part_len, part_ops}
 use Rattle.op_runs.specs.declared.part.Part.{Part}
 use Rattle.op_runs.specs.declared.part.Part.TheVariants.{Deleted, Other, Typed}
-use Rattle.op_runs.proofs.SliceLemmas.{deletes_behind, deletes_counters, other_behind, run_counters, typed_behind}
+use Rattle.op_runs.proofs.SliceLemmas.{deletes_after, deletes_counters, other_after, run_counters, typed_after}
 use Rattle.op_runs.proofs.slice.stretch_of.Goals as goal
 
 pub returns-in-Typed-clause-ops : goal.returns-in-Typed-clause-ops
@@ -15,7 +15,7 @@ returns-in-Typed-clause-ops c =
     subst (IsSoundPart (length c.args.letters.now) (length c.args.others.now)) c.in-Typed.is c.requires.sound in
     let o : c.args.skip < part_len (Typed r) = subst (λ (p : Part). c.args.skip < part_len p) c.in-Typed.is c.requires.inside in
     ap (λ z. run_from z (take (r.at + r.count - (r.at + c.args.skip)) (drop (r.at + c.args.skip) c.args.letters.now))) c.nth.ensures
-    ∙ typed_behind c.args.letters.now r c.args.skip s.1 o
+    ∙ typed_after c.args.letters.now r c.args.skip s.1 o
     ∙ ap (λ (p : Part). drop c.args.skip (part_ops c.args.letters.now c.args.others.now p)) (sym c.in-Typed.is)
 
 pub returns-in-Deleted-clause-ops : goal.returns-in-Deleted-clause-ops
@@ -23,7 +23,7 @@ returns-in-Deleted-clause-ops c =
     let d = c.in-Deleted.deletes in
     let o : c.args.skip < part_len (Deleted d) = subst (λ (p : Part). c.args.skip < part_len p) c.in-Deleted.is c.requires.inside in
     ap (λ t. deletes_by d.down t (d.count - c.args.skip)) c.nth-in-Deleted.ensures
-    ∙ deletes_behind d.down d.target d.count c.args.skip o
+    ∙ deletes_after d.down d.target d.count c.args.skip o
     ∙ ap (λ (p : Part). drop c.args.skip (part_ops c.args.letters.now c.args.others.now p)) (sym c.in-Deleted.is)
 
 pub returns-in-Other-clause-ops : goal.returns-in-Other-clause-ops
@@ -31,7 +31,7 @@ returns-in-Other-clause-ops c =
     let s : IsSoundPart (length c.args.letters.now) (length c.args.others.now) (Other c.in-Other.place) =
     subst (IsSoundPart (length c.args.letters.now) (length c.args.others.now)) c.in-Other.is c.requires.sound in
     let o : c.args.skip < part_len (Other c.in-Other.place) = subst (λ (p : Part). c.args.skip < part_len p) c.in-Other.is c.requires.inside in
-    other_behind c.args.others.now c.in-Other.place c.args.skip c.index-others-place.result s.1 o c.index-others-place.is
+    other_after c.args.others.now c.in-Other.place c.args.skip c.index-others-place.result s.1 o c.index-others-place.is
     ∙ ap (λ (p : Part). drop c.args.skip (part_ops c.args.letters.now c.args.others.now p)) (sym c.in-Other.is)
 
 pub returns-in-Typed-clause-counters : goal.returns-in-Typed-clause-counters

@@ -1,14 +1,14 @@
 use Rattle.std.proofs.Common.{rules}
 use Rattle.std.specs.Prelude.{nat_le}
 use Rattle.std.proofs.lemmas.List.Sorted.{IsPartitionPoint-from_clause, IsPartitionedBy-leb}
-use Rattle.passage_remarks.specs.declared.page.Border.{Border}
-use Rattle.passage_remarks.proofs.BorderLemmas.{point-counts, scalars_before}
+use Rattle.passage_remarks.specs.declared.page.Boundary.{Boundary}
+use Rattle.passage_remarks.proofs.BoundaryLemmas.{point-counts, scalars_before}
 use Rattle.passage_remarks.proofs.page.count_up_to.Goals as goal
 
 pub returns : goal.returns
 returns c =
-    let xs = c.args.borders.now in
+    let xs = c.args.boundaries.now in
     let at = c.args.at in
-    let point = IsPartitionPoint-from_clause (λ (b : Border). nat_le b.scalars at) xs c.partition_point.result c.partition_point.ensures.partitioned
+    let point = IsPartitionPoint-from_clause (λ (b : Boundary). nat_le b.scalars at) xs c.partition_point.result c.partition_point.ensures.partitioned
     (IsPartitionedBy-leb scalars_before xs at c.requires) (λ a r f h. search rules) in
-    point-counts (λ (b : Border). nat_le b.scalars at) xs c.partition_point.result c.partition_point.ensures.bound point
+    point-counts (λ (b : Boundary). nat_le b.scalars at) xs c.partition_point.result c.partition_point.ensures.bound point

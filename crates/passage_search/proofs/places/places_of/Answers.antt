@@ -16,9 +16,9 @@ places-preserved c =
     let text = c.args.text.now in
     let passage = c.args.passage.now in
     let at = c.in-Some.at in
-    let next = c.place_behind-next.result in
+    let next = c.place_after-next.result in
     let before = rw c.in-Some.is at c.places.invariant in
     let added = c.and_one-places.ensures in
     search_finds text passage c.and_one-places.result (at + 1) (omega (arith, before.1.fits, has_some passage c.requires))
     (search_goes_on text passage c.places.places at before.0 before.1 c.and_one-places.result added.count added.fresh added.kept) next
-    (subst (λ needle. FindsNeedle text needle (at + 1) next) c.new.ensures c.place_behind-next.ensures)
+    (subst (λ needle. FindsNeedle text needle (at + 1) next) c.new.ensures c.place_after-next.ensures)

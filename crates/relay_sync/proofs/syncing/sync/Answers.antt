@@ -1,7 +1,7 @@
 use Rattle.std.proofs.Common.{inl, ◌∙◌}
 use Rattle.std.proofs.lemmas.Result.{IfErr-weaker, IfOk-weaker}
 use Rattle.origin_model.specs.taking.Taking.{no_counts}
-use Rattle.relay_sync.proofs.HeardLemmas.{heard_behind, hears_exactly, up_to_behind}
+use Rattle.relay_sync.proofs.HeardLemmas.{heard_after, hears_exactly, up_to_after}
 use Rattle.relay_sync.proofs.SyncingLemmas.{fails_at_once, fails_to_say}
 use Rattle.relay_sync.proofs.syncing.sync.Goals as goal
 
@@ -17,11 +17,11 @@ returns-in_default-say-clause-err g c = (
 
 pub returns-clause-reply : goal.returns-clause-reply
 returns-clause-reply g c =
-    IfOk-weaker c.hear.result _ _ (λ synced h. heard_behind (g.W.Wire.seen c.args.wire.now) (g.W.Wire.seen c.say.new.wire) _ _ _ _ c.say.ensures.says.left h) c.hear.ensures.ok
+    IfOk-weaker c.hear.result _ _ (λ synced h. heard_after (g.W.Wire.seen c.args.wire.now) (g.W.Wire.seen c.say.new.wire) _ _ _ _ c.say.ensures.says.left h) c.hear.ensures.ok
 
 pub returns-clause-up_to : goal.returns-clause-up_to
 returns-clause-up_to g c =
-    IfErr-weaker c.hear.result _ _ (λ fault h. (h.0, up_to_behind fault (g.W.Wire.seen c.args.wire.now) (g.W.Wire.seen c.say.new.wire) _ _ _ c.say.ensures.says.left h.1))
+    IfErr-weaker c.hear.result _ _ (λ fault h. (h.0, up_to_after fault (g.W.Wire.seen c.args.wire.now) (g.W.Wire.seen c.say.new.wire) _ _ _ c.say.ensures.says.left h.1))
     c.hear.ensures.err
 
 pub returns-clause-exactly : goal.returns-clause-exactly

@@ -1,7 +1,7 @@
 use Rattle.std.proofs.Common.{◌≡◌, ◌+◌, ap, inl, inr, length, refl, ◌∙◌, arith}
 use Rattle.std.specs.Prelude.{Err}
 use Rattle.std.proofs.lemmas.Result.{err_from_is_err_and}
-use Rattle.replica_file.specs.Append.{behind_gate}
+use Rattle.replica_file.specs.Append.{after_gate}
 use Rattle.replica_file.specs.declared.appending.AppendFault.TheVariants.{BatchTooLong}
 use Rattle.replica_file.proofs.AppendLemmas.{append_done, append_failed, not_appended, nothing_appended}
 use Rattle.replica_file.proofs.appending.append.Goals as goal
@@ -25,14 +25,14 @@ returns-in_err-bytes g c =
       λ long. elim long [ inl bytes ↦ (let same = exactly.1 bytes in cc same) | inr spent ↦ absurd (c.if-end-eq4294967295.false spent.1) ],
     )))
 
-pub returns-in_err-write_behind : goal.returns-in_err-write_behind
-returns-in_err-write_behind g c =
-    let p = err_from_is_err_and c.from_residual-in_err-write_behind.result c.from_residual-in_err-write_behind.ensures.1 in
+pub returns-in_err-write_after : goal.returns-in_err-write_after
+returns-in_err-write_after g c =
+    let p = err_from_is_err_and c.from_residual-in_err-write_after.result c.from_residual-in_err-write_after.ensures.1 in
     let made = c.in_ok-bytes.ensures in
-    let wrote = c.in_err-write_behind.ensures in
+    let wrote = c.in_err-write_after.ensures in
     rw (p.1, p.2) (append_failed c.args.end c.args.ops made.have_frames made.short (omega (arith, c.if-end-eq4294967295.false)) _ (c.deref.ensures.value ∙ made.bytes)
     (g.H.Disk.seen c.args.disk.now)
-    (g.H.Disk.seen c.write_behind.new.disk) (λ is. c.if-len-eq0.false (c.len.ensures ∙ ap length is))
+    (g.H.Disk.seen c.write_after.new.disk) (λ is. c.if-len-eq0.false (c.len.ensures ∙ ap length is))
     c.requires.ends wrote.moments wrote.honest wrote.cause.later wrote.counts_no_fault
     wrote.cause.failed
     wrote.sure)
@@ -40,10 +40,10 @@ returns-in_err-write_behind g c =
 pub returns : goal.returns
 returns g c =
     let made = c.in_ok-bytes.ensures in
-    let wrote = c.in_ok-write_behind.ensures in
-    let long : c.len-2.result ≡ length (behind_gate c.args.ops) = omega (arith, c.len-2.ensures, c.in_ok-bytes.bytes.ok.0, ap length made.bytes) in
+    let wrote = c.in_ok-write_after.ensures in
+    let long : c.len-2.result ≡ length (after_gate c.args.ops) = omega (arith, c.len-2.ensures, c.in_ok-bytes.bytes.ok.0, ap length made.bytes) in
     append_done c.args.end c.args.ops made.have_frames made.short (omega (arith, c.if-end-eq4294967295.false)) _ (c.deref.ensures.value ∙ made.bytes)
     (g.H.Disk.seen c.args.disk.now)
-    (g.H.Disk.seen c.write_behind.new.disk) (λ is. c.if-len-eq0.false (c.len.ensures ∙ ap length is))
+    (g.H.Disk.seen c.write_after.new.disk) (λ is. c.if-len-eq0.false (c.len.ensures ∙ ap length is))
     c.requires.ends wrote.moments wrote.honest wrote.cause.later wrote.counts_no_fault _
     (λ i. record { at = c.args.end.at + long i; slots = c.args.end.slots + 1 }) c.requires.reaches wrote.past wrote.room wrote.opened wrote.specified_no_fault

@@ -1,11 +1,11 @@
 use Rattle.std.proofs.Common.{ap}
 use Rattle.section_catalogue.proofs.HomeLemmas.{no_home, settled_all}
 use Rattle.stretch_map.proofs.ResultLemmas.{ok_makes}
-use Rattle.fugue_ids.specs.Runs.{id_behind}
+use Rattle.fugue_ids.specs.Runs.{id_after}
 use Rattle.section_catalogue.proofs.homes.note_homes.Goals as goal
 
 pub insert_run-requires-clause-free : goal.insert_run-requires-clause-free
-insert_run-requires-clause-free c = λ k less. no_home c.args.homes.now.values (id_behind c.args.first k) (c.requires.unplaced k less)
+insert_run-requires-clause-free c = λ k less. no_home c.args.homes.now.values (id_after c.args.first k) (c.requires.unplaced k less)
 
 pub returns-clause-ok : goal.returns-clause-ok
 returns-clause-ok c =

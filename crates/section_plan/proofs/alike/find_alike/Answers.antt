@@ -1,8 +1,8 @@
 use Rattle.std.proofs.Common.{length, subst, ◌+◌, ◌<◌, ◌≡◌}
 use Rattle.std.specs.Prelude.{IfNone, None}
-use Rattle.section_plan.specs.Marks.{NoneFronted}
+use Rattle.section_plan.specs.Hashes.{NoneFronted}
 use Rattle.section_plan.specs.Matching.{part_of}
-use Rattle.section_plan.proofs.MarkLemmas.{earlier_is, none_found}
+use Rattle.section_plan.proofs.HashLemmas.{earlier_is, none_found}
 use Rattle.section_plan.proofs.alike.find_alike.Goals as goal
 
 pub returns-clause-within : goal.returns-clause-within
@@ -24,5 +24,5 @@ returns-clause-none c =
     let r = c.args.reversed.now in
     rw c.earlier.ensures
     (none_found p i.texts.items i.front i.end t r c.find_fronted-front.result c.find_fronted-end.result c.requires.index c.requires.reversed
-    (subst (λ ts. IfNone c.find_fronted-front.result (NoneFronted p ts i.front.marks.items t (length t + 1) t)) c.as_slice-texts.ensures.value c.find_fronted-front.ensures.none)
-    (subst (λ ts. IfNone c.find_fronted-end.result (NoneFronted p ts i.end.marks.items r (length r + 1) t)) c.as_slice-texts.ensures.value c.find_fronted-end.ensures.none))
+    (subst (λ ts. IfNone c.find_fronted-front.result (NoneFronted p ts i.front.hashes.items t (length t + 1) t)) c.as_slice-texts.ensures.value c.find_fronted-front.ensures.none)
+    (subst (λ ts. IfNone c.find_fronted-end.result (NoneFronted p ts i.end.hashes.items r (length r + 1) t)) c.as_slice-texts.ensures.value c.find_fronted-end.ensures.none))

@@ -1,5 +1,5 @@
 use Rattle.std.proofs.Common.{inl}
-use Rattle.stretch_map.proofs.ReadLemmas.{latest_behind, value_kept, value_latest}
+use Rattle.stretch_map.proofs.ReadLemmas.{latest_after, value_kept, value_latest}
 use Rattle.stretch_map.specs.Contents.{layout}
 use Rattle.stretch_map.proofs.read.value_at.Goals as goal
 
@@ -15,4 +15,4 @@ pub returns-in-None : goal.returns-in-None
 returns-in-None g c =
     let old = layout c.args.stretches.now in
     value_kept g.V.Follows.nth g.V.Follows.reaches old c.requires c.args.key c.kept_value.result
-    (latest_behind g.V.Follows.nth g.V.Follows.reaches old c.requires c.args.key c.in-None.ensures.none) c.kept_value.ensures
+    (latest_after g.V.Follows.nth g.V.Follows.reaches old c.requires c.args.key c.in-None.ensures.none) c.kept_value.ensures

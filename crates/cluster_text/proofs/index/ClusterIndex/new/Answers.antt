@@ -1,7 +1,7 @@
 use Rattle.std.proofs.Common.{sym, ap, ◌∙◌}
 use Rattle.std.specs.Str.{chars}
 use Rattle.std.proofs.Common.{List, ℕ, length}
-use Rattle.cluster_text.specs.Borders.{stands_alone}
+use Rattle.cluster_text.specs.Boundaries.{stands_alone}
 use Rattle.cluster_text.proofs.IndexLemmas.{enclosed_alone, index_is, inside_is}
 use Rattle.cluster_text.specs.Parts.{inside}
 use Rattle.cluster_text.proofs.index.ClusterIndex.new.Goals as goal

@@ -7,21 +7,21 @@ use Rattle.node_rope.specs.Items.{own_of, value_under}
 use Rattle.node_rope.specs.Places.{StandsAt}
 use Rattle.node_rope.specs.Found.{IsFollowed}
 use Rattle.node_rope.proofs.KeyLemmas.{node-holds, not-held}
-use Rattle.node_rope.proofs.BehindLemmas.{item-stands, item-behind, item-last}
+use Rattle.node_rope.proofs.AfterLemmas.{item-stands, item-behind, item-last}
 use Rattle.node_rope.proofs.rope.Rope.next_item.Goals as goal
 
-pub node_behind-requires-clause-made : goal.node_behind-requires-clause-made
-node_behind-requires-clause-made g c = c.self.invariant.mapped c.args.key c.in-Some.link (sym c.find_link.ensures ∙ c.in-Some.is)
+pub node_after-requires-clause-made : goal.node_after-requires-clause-made
+node_after-requires-clause-made g c = c.self.invariant.mapped c.args.key c.in-Some.link (sym c.find_link.ensures ∙ c.in-Some.is)
 
-pub returns-in-Some-node_behind-clause-some : goal.returns-in-Some-node_behind-clause-some
-returns-in-Some-node_behind-clause-some g c =
+pub returns-in-Some-node_after-clause-some : goal.returns-in-Some-node_after-clause-some
+returns-in-Some-node_after-clause-some g c =
     let i = c.self.inside in
     let wt = own_of g.T.Weigh.weight_of g.T.Weigh.rank_of in
     let key = c.args.key in
     let l = c.in-Some.link in
-    let n = c.in-Some-node_behind.behind in
+    let n = c.in-Some-node_after.behind in
     let f : IsFollowed (nodes_in_order i.store i.root) l.number (Some n.number) =
-    subst (λ (o : Option Link). IsFollowed (nodes_in_order i.store i.root) l.number (link_number o)) c.in-Some-node_behind.is c.node_behind.ensures.behind in
+    subst (λ (o : Option Link). IsFollowed (nodes_in_order i.store i.root) l.number (link_number o)) c.in-Some-node_after.is c.node_after.ensures.behind in
     let at = sym c.find_link.ensures ∙ c.in-Some.is in (
       length f.front,
       subst (λ xs. StandsAt xs (length f.front) key) c.self.view_is (item-stands wt i.store i.root i.map.links c.self.invariant key l at (Some n.number) f),
@@ -30,23 +30,23 @@ returns-in-Some-node_behind-clause-some g c =
           (item-behind wt i.store i.root i.map.links c.self.invariant key l at n f)),
     )
 
-pub returns-in-Some-node_behind-clause-value : goal.returns-in-Some-node_behind-clause-value
-returns-in-Some-node_behind-clause-value g c =
+pub returns-in-Some-node_after-clause-value : goal.returns-in-Some-node_after-clause-value
+returns-in-Some-node_after-clause-value g c =
     let i = c.self.inside in
-    let n = c.in-Some-node_behind.behind in
-    let made = c.node_behind.ensures.made n c.in-Some-node_behind.is in
+    let n = c.in-Some-node_after.behind in
+    let made = c.node_after.ensures.made n c.in-Some-node_after.is in
     let holds = node-holds (own_of g.T.Weigh.weight_of g.T.Weigh.rank_of) i.store i.root i.map.links c.self.invariant n made c.value.result.now c.value.ensures in
     ap (λ h. value_under h.key c.args.self.now) c.shape.ensures
     ∙ subst (λ xs. value_under (shape_at (shapes_of i.store) n.number).key xs ≡ Some c.value.result.now) c.self.view_is holds
 
-pub returns-in-None-node_behind-clause-none : goal.returns-in-None-node_behind-clause-none
-returns-in-None-node_behind-clause-none g c =
+pub returns-in-None-node_after-clause-none : goal.returns-in-None-node_after-clause-none
+returns-in-None-node_after-clause-none g c =
     let i = c.self.inside in
     let wt = own_of g.T.Weigh.weight_of g.T.Weigh.rank_of in
     let key = c.args.key in
     let l = c.in-Some.link in
     let f : IsFollowed (nodes_in_order i.store i.root) l.number None =
-    subst (λ (o : Option Link). IsFollowed (nodes_in_order i.store i.root) l.number (link_number o)) c.in-None-node_behind.is c.node_behind.ensures.behind in
+    subst (λ (o : Option Link). IsFollowed (nodes_in_order i.store i.root) l.number (link_number o)) c.in-None-node_after.is c.node_after.ensures.behind in
     let at = sym c.find_link.ensures ∙ c.in-Some.is in
     λ held. (
       length f.front,

@@ -28,7 +28,7 @@ overflow_add-self g c =
 pub invariant_of-self : goal.invariant_of-self
 invariant_of-self g c =
     let i = c.self.inside in
-    let b = c.node_behind-self-inside in
+    let b = c.node_after-self-inside in
     next-behind i.store.now i.root i.passed c.in_ok-link.link
     (subst (λ (o : Option Link). IsNext i.store.now i.root i.passed o) c.in_ok-link.was c.self.invariant) b.result b.ensures.made b.ensures.behind
 

@@ -1,6 +1,6 @@
 use Rattle.std.proofs.Common.{◌∙◌, ◌≡◌, ◌-◌, ◌++◌, ap, append-nil, arith, false, length, length-append, sym, take}
 use Rattle.op_runs.specs.Deletions.{deletes_by}
-use Rattle.op_runs.proofs.DeletionLemmas.{deletes_back, deletes_behind, length-deletes}
+use Rattle.op_runs.proofs.DeletionLemmas.{deletes_back, deletes_after, length-deletes}
 use Rattle.op_runs.proofs.list.OpRuns.push_deletes.Goals as goal
 
 pub pushed-init : goal.pushed-init
@@ -31,7 +31,7 @@ pub pushed-preserved : goal.pushed-preserved
 pushed-preserved c = (
   omega (arith, c.in-Ok.ensures.within, c.pushed-test.true),
   c.in-Ok.ensures.ok ∙ (λ i. c.pushed.invariant.1 i ++ deletes_by false (c.nth-next.ensures i) c.in-Ok.more)
-      ∙ deletes_behind c.args.self.now c.args.first c.pushed.done c.in-Ok.more,
+      ∙ deletes_after c.args.self.now c.args.first c.pushed.done c.in-Ok.more,
 )
 
 pub returns-clause-ok : goal.returns-clause-ok

@@ -1,7 +1,7 @@
 use Rattle.origin_model.proofs.Words.{Bool, Identifier, List, Op, ap, arith, before_in, chain_before, get_or, lefts, length, reverse, sibling, sym, true, ℕ, ◌+◌, ◌-◌, ◌<◌, ◌∙◌}
 use Rattle.origin_model.proofs.Words.{◌≡◌, ◌≤◌}
 use Rattle.std.proofs.Common.{◌/◌}
-use Rattle.origin_model.proofs.order.OrderLemmas.{stands_before, stands_behind}
+use Rattle.origin_model.proofs.order.OrderLemmas.{stands_before, stands_after}
 use Rattle.origin_model.proofs.order.listing.count_before.Goals as goal
 
 -- the middle lies in the list
@@ -31,5 +31,5 @@ halving-preserved c =
     let below = within c.halving.low c.halving.high (length c.args.finished.now) c.halving-test.true c.halving.invariant.within in
     let compared_is = compared c.args.finished.now (reverse c.args.ops.now) c.args.x e m c.as_slice.result.now c.in_ok-is_before.field-0 c.index-finished-middle.is
     (c.as_slice.ensures.value ∙ c.in_ok-chain.ensures) c.in_ok-is_before.ensures in
-    let n = stands_behind c.args.finished.now (reverse c.args.ops.now) c.args.x e m c.requires below (compared_is ∙ c.if-branch.false) in
+    let n = stands_after c.args.finished.now (reverse c.args.ops.now) c.args.x e m c.requires below (compared_is ∙ c.if-branch.false) in
     record { low = c.halving.invariant.low; high = n; within = omega (arith, below) }

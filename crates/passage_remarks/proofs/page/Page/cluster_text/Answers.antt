@@ -5,7 +5,7 @@ use Rattle.cluster_text.specs.Clusters.{clusters}
 use Rattle.unicode_segmentation.specs.Grapheme.{is_grapheme_break}
 use Rattle.unicode_segmentation.proofs.SegmentsLemmas.{concat-segments}
 use Rattle.passage_remarks.specs.Clusters.{cluster_text}
-use Rattle.passage_remarks.proofs.BorderLemmas.{bytes_between}
+use Rattle.passage_remarks.proofs.BoundaryLemmas.{bytes_between}
 use Rattle.passage_remarks.proofs.page.Page.cluster_text.Goals as goal
 
 pub bytes_before-start-requires : goal.bytes_before-start-requires

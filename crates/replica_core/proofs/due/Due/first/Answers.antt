@@ -11,6 +11,6 @@ pub invariant_of-self : goal.invariant_of-self
 invariant_of-self c =
     let marks : List Bool = c.self.inside.marks.items in
     let found : position (λ mark. mark) marks ≡ Some c.in_ok-position.position =
-    sym c.first_behind.ensures ∙ c.in_ok-position.was in
+    sym c.first_after.ensures ∙ c.in_ok-position.was in
     let first = position-Some (λ mark. mark) marks c.in_ok-position.position false found in
     record { counted = c.self.invariant.counted; front = first.2; within = omega (arith, first.0) }

@@ -1,7 +1,7 @@
 use Rattle.std.proofs.Common.{arith, subst, sym, ◌∙◌}
-use Rattle.run_store.specs.Borders.{IsBorder}
+use Rattle.run_store.specs.Boundaries.{IsBoundary}
 use Rattle.run_store.specs.Runs.{RunsView}
-use Rattle.run_store.proofs.BorderLemmas.{border-found}
+use Rattle.run_store.proofs.BoundaryLemmas.{boundary-found}
 use Rattle.run_store.proofs.RunsLemmas.{held-in, kept-run}
 use Rattle.run_store.proofs.run.Runs.continuation.Goals as goal
 
@@ -30,5 +30,5 @@ returns-in-Some c =
     let front = c.args.front.now in
     let back = c.in-Some.item.1.now in
     let held = held-in c.self.view_is front c.requires in
-    subst (λ (z : RunsView). IsBorder z.rope front back) c.self.view_is
-    (border-found _ c.self.invariant front back c.in-Some.item.0 held c.in-Some.ensures.some c.in-Some.ensures.value (sym c.goes_on.ensures ∙ c.if-goes_on.true))
+    subst (λ (z : RunsView). IsBoundary z.rope front back) c.self.view_is
+    (boundary-found _ c.self.invariant front back c.in-Some.item.0 held c.in-Some.ensures.some c.in-Some.ensures.value (sym c.goes_on.ensures ∙ c.if-goes_on.true))

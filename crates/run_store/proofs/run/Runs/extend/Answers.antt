@@ -1,5 +1,5 @@
 use Rattle.std.proofs.Common.{ap, arith, length, subst, sym, ◌+◌, ◌∙◌, ◌≡◌}
-use Rattle.run_store.specs.Growth.{MayComeTo, cells_inserted_behind, last_id_of_run}
+use Rattle.run_store.specs.Growth.{MayComeTo, cells_inserted_after, last_id_of_run}
 use Rattle.run_store.specs.Heads.{typed_cells}
 use Rattle.run_store.specs.Runs.{AreRuns, RunsView, cells_in}
 use Rattle.run_store.proofs.JoinLemmas.{extended, extended-cells, extended-length, extended-sound}
@@ -49,7 +49,7 @@ returns c =
     λ j. record { rope = c.put.ensures.put j; letters = M; count = i.count + length text } in
     record {
       ok = ap cells_in is ∙ extended-cells _ s h text new run held c.requires.next M longer c.in_ok-longer.ensures.ok
-          ∙ ap (λ (z : RunsView). cells_inserted_behind (last_id_of_run run) (typed_cells h text) (cells_in z)) c.self.view_is;
+          ∙ ap (λ (z : RunsView). cells_inserted_after (last_id_of_run run) (typed_cells h text) (cells_in z)) c.self.view_is;
       kept = ap length c.put.ensures.put ∙ extended-length _ s h text new run held c.requires.next M longer c.in_ok-longer.ensures.ok
           ∙ ap (λ (z : RunsView). length z.rope) c.self.view_is;
       err = tt;

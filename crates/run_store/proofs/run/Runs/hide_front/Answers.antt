@@ -9,18 +9,18 @@ use Rattle.run_store.proofs.HideLemmas.{hides-part, hides-sound}
 use Rattle.run_store.proofs.RunsLemmas.{held-in}
 use Rattle.run_store.proofs.run.Runs.hide_front.Goals as goal
 
-pub run_behind-requires-clause-counters : goal.run_behind-requires-clause-counters
-run_behind-requires-clause-counters c =
+pub run_after-requires-clause-counters : goal.run_after-requires-clause-counters
+run_after-requires-clause-counters c =
     let held = held-in c.self.view_is c.args.run.now c.requires.held in
     (cell-fits _ c.self.invariant c.args.run.now.id c.args.run.now c.args.n held c.requires.more).0
 
-pub run_behind-requires-clause-depths : goal.run_behind-requires-clause-depths
-run_behind-requires-clause-depths c =
+pub run_after-requires-clause-depths : goal.run_after-requires-clause-depths
+run_after-requires-clause-depths c =
     let held = held-in c.self.view_is c.args.run.now c.requires.held in
     (cell-fits _ c.self.invariant c.args.run.now.id c.args.run.now c.args.n held c.requires.more).1
 
-pub run_behind-requires-clause-fits : goal.run_behind-requires-clause-fits
-run_behind-requires-clause-fits c =
+pub run_after-requires-clause-fits : goal.run_after-requires-clause-fits
+run_after-requires-clause-fits c =
     let held = held-in c.self.view_is c.args.run.now c.requires.held in
     (cell-fits _ c.self.invariant c.args.run.now.id c.args.run.now c.args.n held c.requires.more).2
 
@@ -30,7 +30,7 @@ part-requires-clause-held c = held-in c.self.view_is c.args.run.now c.requires.h
 pub part-requires-clause-fresh : goal.part-requires-clause-fresh
 part-requires-clause-fresh c =
     let held = held-in c.self.view_is c.args.run.now c.requires.held in
-    ap (λ (z : Run). is_some (value_under z.id c.self.inside.rope)) c.run_behind.ensures
+    ap (λ (z : Run). is_some (value_under z.id c.self.inside.rope)) c.run_after.ensures
     ∙ ap is_some (rest-fresh _ c.self.invariant c.args.run.now c.args.n held c.requires.some c.requires.more)
 
 pub part-requires-clause-room : goal.part-requires-clause-room
@@ -48,8 +48,8 @@ invariant_of-self c =
     let held = held-in c.self.view_is run c.requires.held in
     let front = c.hidden.ensures ∙ (λ i. record (c.run_to.ensures i) { hidden = true }) in
     hides-sound _ s run n held some more (run_to n run) (front-held _ s run n held some more) c.part.result c.part.new.rope
-    (parted_as run.id c.hidden.result c.run_behind.result c.self.inside.rope)
-    ((λ i. parted_as run.id (front i) (c.run_behind.ensures i) c.self.inside.rope) ∙ front-marked _ s run n held some more true) c.part.ensures.ok c.part.ensures.err
+    (parted_as run.id c.hidden.result c.run_after.result c.self.inside.rope)
+    ((λ i. parted_as run.id (front i) (c.run_after.ensures i) c.self.inside.rope) ∙ front-marked _ s run n held some more true) c.part.ensures.ok c.part.ensures.err
 
 pub returns : goal.returns
 returns c =
@@ -62,5 +62,5 @@ returns c =
     let front = c.hidden.ensures ∙ (λ i. record (c.run_to.ensures i) { hidden = true }) in
     subst (λ (z : RunsView). HidesPart c.part.result z (record { rope = c.part.new.rope; letters = c.self.inside.letters; count = c.self.inside.count }) run.id n) c.self.view_is
     (hides-part _ s run n held some more (run_to n run) (front-held _ s run n held some more) c.part.result c.part.new.rope
-    (parted_as run.id c.hidden.result c.run_behind.result c.self.inside.rope)
-    ((λ i. parted_as run.id (front i) (c.run_behind.ensures i) c.self.inside.rope) ∙ front-marked _ s run n held some more true) c.part.ensures.ok c.part.ensures.err)
+    (parted_as run.id c.hidden.result c.run_after.result c.self.inside.rope)
+    ((λ i. parted_as run.id (front i) (c.run_after.ensures i) c.self.inside.rope) ∙ front-marked _ s run n held some more true) c.part.ensures.ok c.part.ensures.err)

@@ -1,8 +1,8 @@
 use Rattle.std.proofs.Common.{List, ap, arith, length, subst, ◌+◌, ◌-◌, ◌∙◌, ◌≡◌}
 use Rattle.std.specs.Prelude.{OnOk}
 use Rattle.fugue_ids.specs.Identifiers.{Identifier}
-use Rattle.run_store.specs.Growth.{cells_inserted_behind, last_id_of_run}
-use Rattle.run_store.specs.Heads.{head_behind, typed_cells}
+use Rattle.run_store.specs.Growth.{cells_inserted_after, last_id_of_run}
+use Rattle.run_store.specs.Heads.{head_after, typed_cells}
 use Rattle.run_store.specs.Runs.{RunsView, cells_in, first_of}
 use Rattle.run_store.specs.Stored.{IsRaisedBy}
 use Rattle.run_store.specs.declared.cell.Cell.{Cell}
@@ -21,15 +21,15 @@ returns c =
     let o = c.args.spot.now.offset in
     let run = c.args.spot.now.run in
     let e : (o + 1) - 1 ≡ o = omega arith in
-    let id : last_id_of_run c.run_to.result ≡ (head_behind o (first_of run)).id = ap last_id_of_run c.run_to.ensures ∙ ap (λ n. (head_behind n (first_of run)).id) e in
-    let cut = c.in_ok-cut_behind.ensures in
+    let id : last_id_of_run c.run_to.result ≡ (head_after o (first_of run)).id = ap last_id_of_run c.run_to.ensures ∙ ap (λ n. (head_after n (first_of run)).id) e in
+    let cut = c.in_ok-cut_after.ensures in
     let begun = c.begin.ensures in
     let old = c.args.self.now in
-    let parted = c.cut_behind.new.self in
+    let parted = c.cut_after.new.self in
     let new = c.begin.new.self in
     let n = length old.rope in
     record {
-      ok = subst (λ (p : Identifier × List Cell). OnOk c.begin.result (cells_in new ≡ cells_inserted_behind p.0 (typed_cells c.args.head.now c.args.text.now) p.1))
+      ok = subst (λ (p : Identifier × List Cell). OnOk c.begin.result (cells_in new ≡ cells_inserted_after p.0 (typed_cells c.args.head.now c.args.text.now) p.1))
           (λ i. (id i, cut.cells i)) begun.ok;
       err = where-err (λ (r : RunsView). cells_in r ≡ cells_in old) c.begin.result parted new begun.err cut.cells;
       raised = on-ok c.begin.result (length new.rope ≡ length parted.rope + 1) (IsRaisedBy 2 n (length new.rope))

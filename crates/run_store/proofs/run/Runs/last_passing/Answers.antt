@@ -45,7 +45,7 @@ passing_by_halves-requires-clause-part g c =
     let x = c.in_ok-last.last in
     let low = last_is_low c.args.most (between c.args.from c.args.to es) x (sym c.in_ok-last.ensures) in
     let h = halves es c.args.most c.args.from c.args.to x (cells-apart r c.sound.ensures) c.requires.from c.requires.to low in
-    record { from = c.requires.from; to = h.low_behind; begin = c.begin_of-begin.ensures; end = c.end_of-end.ensures }
+    record { from = c.requires.from; to = h.low_after; begin = c.begin_of-begin.ensures; end = c.end_of-end.ensures }
 
 pub returns : goal.returns
 returns g c = λ test t f.

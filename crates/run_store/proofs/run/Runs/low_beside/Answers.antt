@@ -4,7 +4,7 @@ use Rattle.std.specs.List.{Contains}
 use Rattle.fugue_ids.specs.Keys.{ids, rest_of}
 use Rattle.fugue_ids.specs.Listed.{HoldsOrigin}
 use Rattle.fugue_ids.proofs.ListLemmas.{contains_none}
-use Rattle.fugue_ids.proofs.PartLemmas.{around_low, end_held, found_before, found_behind, member_held, next_held}
+use Rattle.fugue_ids.proofs.PartLemmas.{around_low, end_held, found_before, found_after, member_held, next_held}
 use Rattle.run_store.specs.Cells.{keyed_cells}
 use Rattle.run_store.specs.Runs.{cells_in}
 use Rattle.run_store.proofs.MiddleLemmas.{cells-apart}
@@ -58,6 +58,6 @@ returns-in-None c =
     let p = c.args.part.now in
     let m = c.args.middle in
     let a = around_low es p.most p.from p.to m (cells-apart r c.sound.ensures) c.requires.part.from c.requires.part.to c.requires.inside in
-    let found = found_behind es p.from p.to m a p.most c.first_low_in.result c.behind-next.result c.behind-next.ensures
+    let found = found_after es p.from p.to m a p.most c.first_low_in.result c.behind-next.result c.behind-next.ensures
     (sym c.last_low_in.ensures ∙ c.in-None.is) c.first_low_in.ensures in
     record { none = found.0; some = found.1 }

@@ -8,18 +8,18 @@ use Rattle.run_store.proofs.EitherLemmas.{on-err, on-ok}
 use Rattle.run_store.proofs.RunsLemmas.{Item, held-in}
 use Rattle.run_store.proofs.run.Runs.split.Goals as goal
 
-pub run_behind-requires-clause-counters : goal.run_behind-requires-clause-counters
-run_behind-requires-clause-counters c =
+pub run_after-requires-clause-counters : goal.run_after-requires-clause-counters
+run_after-requires-clause-counters c =
     let held = held-in c.self.view_is c.args.run.now c.requires.held in
     (cell-fits _ c.self.invariant c.args.run.now.id c.args.run.now c.args.at held c.requires.before).0
 
-pub run_behind-requires-clause-depths : goal.run_behind-requires-clause-depths
-run_behind-requires-clause-depths c =
+pub run_after-requires-clause-depths : goal.run_after-requires-clause-depths
+run_after-requires-clause-depths c =
     let held = held-in c.self.view_is c.args.run.now c.requires.held in
     (cell-fits _ c.self.invariant c.args.run.now.id c.args.run.now c.args.at held c.requires.before).1
 
-pub run_behind-requires-clause-fits : goal.run_behind-requires-clause-fits
-run_behind-requires-clause-fits c =
+pub run_after-requires-clause-fits : goal.run_after-requires-clause-fits
+run_after-requires-clause-fits c =
     let held = held-in c.self.view_is c.args.run.now c.requires.held in
     (cell-fits _ c.self.invariant c.args.run.now.id c.args.run.now c.args.at held c.requires.before).2
 
@@ -29,7 +29,7 @@ part-requires-clause-held c = held-in c.self.view_is c.args.run.now c.requires.h
 pub part-requires-clause-fresh : goal.part-requires-clause-fresh
 part-requires-clause-fresh c =
     let held = held-in c.self.view_is c.args.run.now c.requires.held in
-    ap (λ (z : Run). is_some (value_under z.id c.self.inside.rope)) c.run_behind.ensures
+    ap (λ (z : Run). is_some (value_under z.id c.self.inside.rope)) c.run_after.ensures
     ∙ ap is_some (rest-fresh _ c.self.invariant c.args.run.now c.args.at held c.requires.behind c.requires.before)
 
 pub part-requires-clause-room : goal.part-requires-clause-room
@@ -44,8 +44,8 @@ invariant_of-self c =
     let now = c.part.new.rope in
     let held = held-in c.self.view_is run c.requires.held in
     cut-left _ c.self.invariant run c.args.at held c.requires.behind c.requires.before c.part.result now
-    (on-ok c.part.result (now ≡ parted_as run.id c.run_to.result c.run_behind.result rope) (now ≡ rope_parted c.args.at run rope)
-    (λ q. q ∙ (λ j. parted_as run.id (c.run_to.ensures j) (c.run_behind.ensures j) rope)) c.part.ensures.ok)
+    (on-ok c.part.result (now ≡ parted_as run.id c.run_to.result c.run_after.result rope) (now ≡ rope_parted c.args.at run rope)
+    (λ q. q ∙ (λ j. parted_as run.id (c.run_to.ensures j) (c.run_after.ensures j) rope)) c.part.ensures.ok)
     c.part.ensures.err
 
 pub returns : goal.returns
@@ -55,8 +55,8 @@ returns c =
     let now = c.part.new.rope in
     let with_rope : List Item → RunsView = λ xs. record { rope = xs; letters = i.letters; count = i.count } in
     record {
-      ok = on-ok c.part.result (now ≡ parted_as run.id c.run_to.result c.run_behind.result i.rope) _
-          (λ q. ap with_rope (q ∙ (λ j. parted_as run.id (c.run_to.ensures j) (c.run_behind.ensures j) i.rope))
+      ok = on-ok c.part.result (now ≡ parted_as run.id c.run_to.result c.run_after.result i.rope) _
+          (λ q. ap with_rope (q ∙ (λ j. parted_as run.id (c.run_to.ensures j) (c.run_after.ensures j) i.rope))
           ∙ ap (λ (z : RunsView). record { rope = rope_parted c.args.at run z.rope; letters = z.letters; count = z.count }) c.self.view_is) c.part.ensures.ok;
       err = on-err c.part.result (now ≡ i.rope) _ (λ q. ap with_rope q ∙ c.self.view_is) c.part.ensures.err;
     }

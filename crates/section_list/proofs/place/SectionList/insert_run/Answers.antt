@@ -1,5 +1,5 @@
 use Rattle.std.proofs.Common.{ap, length, subst, sym, true, ℕ, ◌<◌, ◌∙◌, ◌≡◌}
-use Rattle.fugue_ids.proofs.RunLemmas.{none_behind}
+use Rattle.fugue_ids.proofs.RunLemmas.{none_after}
 use Rattle.origin_model.specs.sides.Node.{IsNew, has_node, has_origin}
 use Rattle.origin_model.specs.declared.operations.node.Node.{Node}
 use Rattle.section_list.specs.SectionList.{AreNoNodes, Listing, with_elements}
@@ -10,7 +10,7 @@ use Rattle.section_list.proofs.place.SectionList.insert_run.Goals as goal
 new_here : (now old : Listing) (n : Node) (count : ℕ) → now ≡ old → 0 < count → AreNoNodes old.nodes n.id count → has_origin old.nodes n.left ≡ true
     → has_origin old.nodes n.right ≡ true → IsNew now.nodes n
 new_here now old n count same some fresh l r =
-    subst (λ (s : Listing). IsNew s.nodes n) (sym same) (record { fresh = ap (has_node old.nodes) (sym (none_behind n.id)) ∙ fresh 0 some; left = l; right = r })
+    subst (λ (s : Listing). IsNew s.nodes n) (sym same) (record { fresh = ap (has_node old.nodes) (sym (none_after n.id)) ∙ fresh 0 some; left = l; right = r })
 
 -- none of the identifiers is held in what is inside
 unheld : (inside now old : Listing) (n : Node) (count : ℕ) → inside ≡ now → now ≡ old → AreNoNodes old.nodes n.id count → AreNoNodes inside.nodes n.id count

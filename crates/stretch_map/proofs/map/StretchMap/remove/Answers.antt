@@ -3,7 +3,7 @@ use Rattle.std.specs.Prelude.{IfSome, None, is_ok}
 use Rattle.std.specs.FinMap as map
 use Rattle.std.proofs.lemmas.Bool.{false≢true}
 use Rattle.fugue_ids.specs.Identifiers.{Identifier}
-use Rattle.fugue_ids.specs.Runs.{id_behind}
+use Rattle.fugue_ids.specs.Runs.{id_after}
 use Rattle.stretch_map.specs.Contents.{layout, value_in}
 use Rattle.stretch_map.specs.Stretches.{EndsAt}
 use Rattle.stretch_map.proofs.MapLemmas.{contents-loses, contents-same, ends_unless_followed, get-contents, still_ends}
@@ -34,7 +34,7 @@ returns-in_err-value-clause-sure g c = λ sure.
       | inl is ↦ subst (λ o. IfSome o (EndsAt old)) (ap (λ h. h.newest) c.self.view_is ∙ is) c.self.invariant.ends
       | inr not ↦
           ends_unless_followed nth g.V.Follows.reaches g.met.V.Follows.adds old c.self.invariant.are c.args.key
-          (λ f. not (record { value = f.value; held = seen c.args.key ∙ f.held; followed = seen (id_behind c.args.key 1) ∙ f.followed }))
+          (λ f. not (record { value = f.value; held = seen c.args.key ∙ f.held; followed = seen (id_after c.args.key 1) ∙ f.followed }))
     ] in
     absurd (false≢true (sym (ap is_ok c.in_err-value.was) ∙ c.take_out.ensures.sure ends))
 

@@ -1,6 +1,0 @@
-use Rattle.std.proofs.Common.{◌≡◌, length}
-use Rattle.std.specs.Io.KnownBytes.{Keeps}
-use Rattle.outer_ports.proofs.again.read.Given as goal
-
-abbrev pub invariant-calls : goal.invariant-calls
-invariant-calls g l = Keeps (g.S.Read.remaining l.initial.stream) (g.S.Read.remaining l.stream) × (length l.buf ≡ length l.initial.buf)
